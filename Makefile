@@ -1,0 +1,41 @@
+# make run    builds the library and shows it at work
+# make test   runs every test; its last line is rt's 'N passed, M failed'
+# make clean  removes what the others made
+
+RT ?= rt
+CC ?= cc
+CFLAGS ?= -O2 -g
+WARNINGS = -std=c99 -Wall -Wextra -Wpedantic -Werror
+SANITIZERS = -fsanitize=address,undefined -fno-sanitize-recover=all
+
+ARCHIVE = target/staticlib/libtweedstork.a
+OUT = target/c
+
+.PHONY: all run test clean toolchain archive programs
+all: archive
+
+toolchain:
+	@command -v $(RT) >/dev/null 2>&1 || { echo "make: the Rattle toolchain is missing: put its command 'rt' on the PATH (README.md, \"What it needs\")" >&2; exit 1; }
+
+# Proves what has changed since the last time and writes the archive; what the prover says is shown only where it refuses.
+archive: toolchain
+	@mkdir -p $(OUT)
+	@echo "proving the crates and building $(ARCHIVE)"
+	@$(RT) staticlib tweedstork >$(OUT)/archive.log 2>&1 || { cat $(OUT)/archive.log; exit 1; }
+
+run: archive
+	@$(CC) $(CFLAGS) $(WARNINGS) -Iinclude examples/relay.c $(ARCHIVE) -o $(OUT)/relay
+	@echo; $(OUT)/relay 20:4 10:22 10:24
+	@echo; $(OUT)/relay 10:20 20:25
+
+# The C tests, then the layout of the source, then the proofs, the must-fail edits and the cases.
+test: archive
+	@$(CC) $(CFLAGS) $(WARNINGS) $(SANITIZERS) -Iinclude tests/boundary.c $(ARCHIVE) -o $(OUT)/boundary
+	$(OUT)/boundary
+	@$(CC) $(CFLAGS) $(WARNINGS) -Iinclude examples/relay.c $(ARCHIVE) -o $(OUT)/relay
+	tests/examples.sh $(OUT)/relay
+	$(RT) fmt --check
+	$(RT) ci
+
+clean:
+	rm -rf target

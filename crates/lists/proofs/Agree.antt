@@ -1,0 +1,95 @@
+-- Two lists compared element by element with a test p: the laws, and the turn of a loop with its ends. Assumes nothing.
+use Prim.Native.Nat.{ℕ, _+_, _<_, _≤_}
+use mathlib.Core.Path.{_≡_, refl, sym}
+use mathlib.Core.Bool.{Bool, true, false, _&&_, and-false}
+use mathlib.Core.List.{List, [], _∷_}
+use native.Mathlib.Omega.{arith}
+use lib.Dec.{eqb}
+use lib.ListN.{length, getD, drop, drop-of-length-le}
+use borrow.Author.Needs.{needs}
+use borrow.Author.Tests.{not-true, not-false, eq-eqb, eqb-true}
+use Rattle.lists.specs.Bytes.{lowerOf}
+use Rattle.lists.specs.Equal.{agree, sameByte, sameLetter, sameBytes, sameText}
+use Rattle.lists.proofs.Laws.{drop-next}
+
+agree-apart : (p : ℕ → ℕ → Bool) (a b : List ℕ) → (length a ≡ length b → ⊥) → agree p a b ≡ false
+unfolding agree
+agree-apart p [] [] h = absurd (h refl)
+agree-apart p [] (y ∷ b) h = refl
+agree-apart p (x ∷ a) [] h = refl
+agree-apart p (x ∷ a) (y ∷ b) h = rw (agree-apart p a b (λ e. h (omega arith))) (and-false (p x y))
+
+-- lists of different lengths do not agree
+pub agree-length : (p : ℕ → ℕ → Bool) (a b : List ℕ) → (length a ≡ length b → ⊥) → false ≡ agree p a b
+agree-length p a b h = sym (agree-apart p a b h)
+
+-- a turn of the loop, and its ends: r is what the code's call of p gave
+module _ (p : ℕ → ℕ → Bool) (a b : List ℕ) (i : ℕ) (inv : agree p a b ≡ agree p (drop i a) (drop i b)) (l : length a ≡ length b) where
+  module _ (h : i < length a) (r : Bool) (gave : r ≡ p (getD a i 0) (getD b i 0)) where
+    pub agree-next : r ≡ true → agree p a b ≡ agree p (drop (i + 1) a) (drop (i + 1) b)
+    unfolding agree
+    agree-next t =
+        let k : i < length b = omega arith in
+        cc (drop-next a i h, drop-next b i k)
+
+    pub agree-differ : r ≡ false → false ≡ agree p a b
+    unfolding agree
+    agree-differ t =
+        let k : i < length b = omega arith in
+        cc (drop-next a i h, drop-next b i k)
+
+  pub agree-end : length a ≤ i → true ≡ agree p a b
+  unfolding agree
+  agree-end h =
+      let k : length b ≤ i = omega arith in
+      cc (drop-of-length-le a h, drop-of-length-le b k)
+
+-- a function whose loop compares two slices: `search agree-laws` at each need
+pub ruleset agree-laws = (agree-length, agree-next, agree-differ, agree-end, not-true, not-false, needs)
+
+-- `is_same_letter`: a and b are what `lower` gave
+pub letter-is : (a b x y : ℕ) → a ≡ lowerOf x → b ≡ lowerOf y → eqb a b ≡ sameLetter x y
+unfolding sameLetter
+letter-is a b x y e f = cc
+
+-- what agrees by a test that each element passes with itself: the list with itself
+pub agree-self : (p : ℕ → ℕ → Bool) → ((x : ℕ) → p x x ≡ true) → (a : List ℕ) → agree p a a ≡ true
+unfolding agree
+agree-self p self [] = refl
+agree-self p self (x ∷ a) = rw (self x, agree-self p self a)
+
+-- the same bytes are the same list, and a list has its own bytes
+pub same-bytes : (a b : List ℕ) → sameBytes a b ≡ true → a ≡ b
+unfolding agree sameByte
+same-bytes [] [] h = refl
+same-bytes [] (y ∷ b) h = absurd (let z : _≡_ {A = ℕ} 0 1 = cc in omega arith)
+same-bytes (x ∷ a) [] h = absurd (let z : _≡_ {A = ℕ} 0 1 = cc in omega arith)
+same-bytes (x ∷ a) (y ∷ b) h = go (same-bytes a b) (eqb x y) refl h
+  where
+    go : (sameBytes a b ≡ true → a ≡ b) → (t : Bool) → eqb x y ≡ t → (t && sameBytes a b) ≡ true → x ∷ a ≡ y ∷ b
+    go ih true e k =
+        let u : x ≡ y = omega (arith, eqb-true x y e) in
+        let v : a ≡ b = ih k in
+        cc
+    go ih false e k = absurd (let z : _≡_ {A = ℕ} 0 1 = cc in omega arith)
+
+pub bytes-self : (a : List ℕ) → sameBytes a a ≡ true
+unfolding sameByte
+bytes-self a = agree-self sameByte (λ x. eq-eqb x x refl) a
+
+-- a text is the same as itself
+pub text-self : (a : List ℕ) → sameText a a ≡ true
+unfolding sameLetter
+text-self a = agree-self sameLetter (λ x. eq-eqb (lowerOf x) (lowerOf x) refl) a
+
+-- the same text has as many bytes
+pub agree-lengths : (p : ℕ → ℕ → Bool) (a b : List ℕ) → agree p a b ≡ true → length a ≡ length b
+unfolding agree
+agree-lengths p [] [] h = refl
+agree-lengths p [] (y ∷ b) h = absurd (let z : _≡_ {A = ℕ} 0 1 = cc in omega arith)
+agree-lengths p (x ∷ a) [] h = absurd (let z : _≡_ {A = ℕ} 0 1 = cc in omega arith)
+agree-lengths p (x ∷ a) (y ∷ b) h = go (agree-lengths p a b) (p x y) h
+  where
+    go : (agree p a b ≡ true → length a ≡ length b) → (t : Bool) → (t && agree p a b) ≡ true → length (x ∷ a) ≡ length (y ∷ b)
+    go ih true k = let e : length a ≡ length b = ih k in omega arith
+    go ih false k = absurd (let z : _≡_ {A = ℕ} 0 1 = cc in omega arith)

@@ -1,0 +1,7 @@
+pub mod Laws
+pub mod All
+pub mod Agree
+pub mod Split
+pub mod Every
+pub mod Span
+pub mod Write

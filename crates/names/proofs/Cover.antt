@@ -1,0 +1,181 @@
+-- A text that equals a name ignoring ASCII case is a name; so `covers` tells of a name what `matchesName` says. Assumes nothing.
+use Prim.Native.Nat.{ℕ, suc, _+_, _-_, _<_, _≤_}
+use mathlib.Core.Path.{_≡_, refl, sym, ap, _∙_}
+use mathlib.Core.Bool.{Bool, true, false, cond, not, _&&_, _||_, and-false, and-true}
+use mathlib.Core.List.{List, [], _∷_, map}
+use native.Mathlib.Omega.{arith}
+use lib.Dec.{eqb, leb, ltb}
+use lib.ListN.{length, getD, take, drop, length-map, List·getD-map, drop-of-length-le, length-drop}
+use borrow.Author.Needs.{needs}
+use borrow.Author.Tests.{not-true, not-false, eq-eqb, ne-eqb, lt-ltb, le-ltb, ltb-true, ltb-false, leb-true, le-leb, lt-leb, eqb-true}
+use Rattle.lists.specs.Bytes.{within, all, lowerOf}
+use Rattle.lists.specs.Equal.{agree, sameLetter, sameText}
+use Rattle.lists.specs.Split.{indexOf, split, toFirst}
+use Rattle.lists.proofs.Laws.{take-rest, bounds, tests}
+use Rattle.lists.proofs.Split.{split-first, indexOf-le}
+use Rattle.names.specs.Name.{labelByte, isLabel, isName, isStarred, isWildcard, afterFirst, matchesName}
+use Rattle.names.specs.Scan.{coversName}
+
+-- the small letters of a text
+abbrev lowered : List ℕ → List ℕ
+lowered s = map lowerOf s
+
+-- the same text has the same small letters
+same-lowered : (a b : List ℕ) → sameText a b ≡ true → lowered a ≡ lowered b
+unfolding agree sameLetter
+same-lowered [] [] h = refl
+same-lowered [] (y ∷ b) h = absurd (let z : _≡_ {A = ℕ} 0 1 = cc in omega arith)
+same-lowered (x ∷ a) [] h = absurd (let z : _≡_ {A = ℕ} 0 1 = cc in omega arith)
+same-lowered (x ∷ a) (y ∷ b) h = go (same-lowered a b) (eqb (lowerOf x) (lowerOf y)) refl h
+  where
+    go : (sameText a b ≡ true → lowered a ≡ lowered b) → (t : Bool) → eqb (lowerOf x) (lowerOf y) ≡ t → (t && sameText a b) ≡ true → lowered (x ∷ a) ≡ lowered (y ∷ b)
+    go ih true e k =
+        let u : lowerOf x ≡ lowerOf y = eqb-true (lowerOf x) (lowerOf y) e in
+        let v : lowered a ≡ lowered b = ih k in
+        cc
+    go ih false e k = absurd (let z : _≡_ {A = ℕ} 0 1 = cc in omega arith)
+
+-- a capital is between the signs and the small letters, so its small letter is of a label as well, and no hyphen or dot
+capital : (x : ℕ) → within 65 90 x ≡ true → (65 ≤ x) × (x ≤ 90)
+capital x h = go (leb 65 x) (leb x 90) refl refl h
+  where
+    go : (t u : Bool) → leb 65 x ≡ t → leb x 90 ≡ u → (t && u) ≡ true → (65 ≤ x) × (x ≤ 90)
+    go true true p q k = (leb-true 65 x p, leb-true x 90 q)
+    go true false p q k = absurd (let z : _≡_ {A = ℕ} 0 1 = cc in omega arith)
+    go false u p q k = absurd (let z : _≡_ {A = ℕ} 0 1 = cc in omega arith)
+
+-- a test that holds equally of a capital and its small letter does not see case
+unseen : (p : ℕ → Bool) → ((x : ℕ) → 65 ≤ x → x ≤ 90 → p (x + 32) ≡ p x) → (x : ℕ) → p (lowerOf x) ≡ p x
+unfolding lowerOf
+unseen p same x = go (within 65 90 x) refl
+  where
+    go : (t : Bool) → within 65 90 x ≡ t → p (cond t (x + 32) x) ≡ p x
+    go true e = same x (capital x e .0) (capital x e .1)
+    go false e = refl
+
+letter-byte : (x : ℕ) → 65 ≤ x → x ≤ 90 → labelByte (x + 32) ≡ labelByte x
+unfolding labelByte
+letter-byte x a b =
+    simp
+    (le-leb 97 (x + 32) (omega arith), le-leb (x + 32) 122 (omega arith), lt-leb 97 x (omega arith), le-leb 65 x a, le-leb x 90 b)
+
+hyphen : (x : ℕ) → 65 ≤ x → x ≤ 90 → eqb (x + 32) 45 ≡ eqb x 45
+hyphen x a b = ne-eqb (x + 32) 45 (λ e. omega arith) ∙ sym (ne-eqb x 45 (λ e. omega arith))
+
+dot : (x : ℕ) → 65 ≤ x → x ≤ 90 → eqb (x + 32) 46 ≡ eqb x 46
+dot x a b = ne-eqb (x + 32) 46 (λ e. omega arith) ∙ sym (ne-eqb x 46 (λ e. omega arith))
+
+all-lowered : (l : List ℕ) → all labelByte (lowered l) ≡ all labelByte l
+unfolding all
+all-lowered [] = refl
+all-lowered (x ∷ l) = rw (unseen labelByte letter-byte x, all-lowered l)
+
+hyphen-lowered : (l : List ℕ) (i : ℕ) → eqb (getD (lowered l) i 0) 45 ≡ eqb (getD l i 0) 45
+unfolding lowerOf
+hyphen-lowered l i = ap (λ (y : ℕ). eqb y 45) (List·getD-map lowerOf l i 0) ∙ unseen (λ (y : ℕ). eqb y 45) hyphen (getD l i 0)
+
+label-lowered : (l : List ℕ) → isLabel (lowered l) ≡ isLabel l
+unfolding isLabel
+label-lowered l = rw (length-map l lowerOf, hyphen-lowered l 0, hyphen-lowered l (length l - 1), all-lowered l)
+
+first-lowered : (x : ℕ) (ps : List (List ℕ)) → toFirst (lowerOf x) (map lowered ps) ≡ map lowered (toFirst x ps)
+unfolding toFirst
+first-lowered x [] = refl
+first-lowered x (p ∷ ps) = refl
+
+split-lowered : (s : List ℕ) → split 46 (lowered s) ≡ map lowered (split 46 s)
+unfolding split
+split-lowered [] = refl
+split-lowered (x ∷ s) = rw (unseen (λ (y : ℕ). eqb y 46) dot x, split-lowered s) (go (split 46 s) (eqb x 46))
+  where
+    go : (ps : List (List ℕ)) (t : Bool) → cond t ([] ∷ map lowered ps) (toFirst (lowerOf x) (map lowered ps)) ≡ map lowered (cond t ([] ∷ ps) (toFirst x ps))
+    go ps true = refl
+    go ps false = first-lowered x ps
+
+labels-lowered : (ps : List (List ℕ)) → all isLabel (map lowered ps) ≡ all isLabel ps
+unfolding all
+labels-lowered [] = refl
+labels-lowered (p ∷ ps) = rw (label-lowered p, labels-lowered ps)
+
+-- a text is a name exactly where its small letters are
+name-lowered : (s : List ℕ) → isName (lowered s) ≡ isName s
+unfolding isName
+name-lowered s = rw (length-map s lowerOf, split-lowered s, labels-lowered (split 46 s))
+
+-- what equals a name, ignoring ASCII case, is a name
+pub name-same : (a b : List ℕ) → sameText a b ≡ true → isName a ≡ isName b
+name-same a b h = sym (name-lowered a) ∙ ap isName (same-lowered a b h) ∙ name-lowered b
+
+-- the test of a name's labels, taken apart at its first dot
+pub and-both : (x y : Bool) → (x && y) ≡ true → (x ≡ true) × (y ≡ true)
+and-both true true h = (refl, refl)
+and-both true false h = (refl, h)
+and-both false y h = absurd (let z : _≡_ {A = ℕ} 0 1 = cc in omega arith)
+
+empty-piece : all isLabel (split 46 []) ≡ false
+unfolding all split isLabel
+empty-piece = refl
+
+-- what follows the first dot of a name is a name
+pub name-after : (n : List ℕ) → isName n ≡ true → indexOf 46 n < length n → isName (afterFirst n) ≡ true
+unfolding isName all
+name-after n h k = go (afterFirst n) refl
+  where
+    sizes : within 1 253 (length n) ≡ true
+    sizes = and-both (within 1 253 (length n)) (all isLabel (split 46 n)) h .0
+
+    first : split 46 n ≡ take (indexOf 46 n) n ∷ split 46 (afterFirst n)
+    first = let e : suc (indexOf 46 n) ≡ indexOf 46 n + 1 = omega arith in rw (← e) (split-first 46 n k)
+
+    rest : all isLabel (split 46 (afterFirst n)) ≡ true
+    rest = and-both (isLabel (take (indexOf 46 n) n)) (all isLabel (split 46 (afterFirst n))) (rw first at (and-both (within 1 253 (length n)) (all isLabel (split 46 n)) h .1)) .1
+
+    few : length n ≤ 253
+    few = leb-true (length n) 253 (and-both (leb 1 (length n)) (leb (length n) 253) sizes .1)
+
+    go : (m : List ℕ) → afterFirst n ≡ m → (within 1 253 (length m) && all isLabel (split 46 m)) ≡ true
+    go [] e = absurd (let x : all isLabel (split 46 []) ≡ true = rw e at rest in let z : _≡_ {A = ℕ} 0 1 = cc (x, empty-piece) in omega arith)
+    go (x ∷ m) e =
+        let l : length (x ∷ m) ≤ 253 = omega (arith, few, ap length e, length-drop (indexOf 46 n + 1) n) in
+        let r : all isLabel (split 46 (x ∷ m)) ≡ true = rw e at rest in
+        rw (le-leb 1 (length (x ∷ m)) (omega arith), le-leb (length (x ∷ m)) 253 l) r
+
+-- no text equals a name but a name: where the texts are equal, the pattern needs no test
+name-or-not : (a b : List ℕ) → isName b ≡ true → sameText a b ≡ (isName a && sameText a b)
+name-or-not a b h = go (sameText a b) refl
+  where
+    go : (t : Bool) → sameText a b ≡ t → t ≡ (isName a && t)
+    go true e = rw (name-same a b e, h)
+    go false e = sym (and-false (isName a))
+
+-- nothing is no name
+pub nothing-no-name : isName [] ≡ false
+unfolding isName
+nothing-no-name = refl
+
+pub same-nothing : (a : List ℕ) → (isName a && sameText a []) ≡ false
+unfolding agree
+same-nothing [] = rw nothing-no-name
+same-nothing (x ∷ a) = and-false (isName (x ∷ a))
+
+-- what follows `*.`, against what follows the first dot of a name
+after-same : (p n : List ℕ) → isName n ≡ true → (ltb (indexOf 46 n) (length n) && sameText (drop 2 p) (afterFirst n)) ≡ (isName (drop 2 p) && sameText (drop 2 p) (afterFirst n))
+after-same p n h = go (ltb (indexOf 46 n) (length n)) refl
+  where
+    go : (t : Bool) → ltb (indexOf 46 n) (length n) ≡ t → (t && sameText (drop 2 p) (afterFirst n)) ≡ (isName (drop 2 p) && sameText (drop 2 p) (afterFirst n))
+    go true e = name-or-not (drop 2 p) (afterFirst n) (name-after n h (ltb-true (indexOf 46 n) (length n) e))
+    go false e =
+        let l : length n ≤ indexOf 46 n + 1 = omega (arith, ltb-false (indexOf 46 n) (length n) e) in
+        rw (drop-of-length-le n l) (sym (same-nothing (drop 2 p)))
+
+and-assoc : (x y z : Bool) → ((x && y) && z) ≡ (x && (y && z))
+and-assoc true y z = refl
+and-assoc false y z = refl
+
+-- of a name n, `covers` says whether p matches n
+pub matches-covers : (p n : List ℕ) → isName n ≡ true → coversName p n ≡ matchesName p n
+unfolding coversName matchesName isWildcard
+matches-covers p n h =
+    let whole : sameText p n ≡ (isName p && sameText p n) = name-or-not p n h in
+    let rest : (isStarred p && ltb (indexOf 46 n) (length n) && sameText (drop 2 p) (afterFirst n)) ≡ (isStarred p && isName (drop 2 p) && sameText (drop 2 p) (afterFirst n)) = and-assoc (isStarred p) (ltb (indexOf 46 n) (length n)) (sameText (drop 2 p) (afterFirst n)) ∙ ap (λ (y : Bool). isStarred p && y) (after-same p n h) ∙ sym (and-assoc (isStarred p) (isName (drop 2 p)) (sameText (drop 2 p) (afterFirst n))) in
+    ap (λ (y : Bool). y || (isStarred p && ltb (indexOf 46 n) (length n) && sameText (drop 2 p) (afterFirst n))) whole ∙ (ap (λ (y : Bool). (isName p && sameText p n) || y) rest ∙ rw h)

@@ -1,0 +1,5 @@
+pub mod Name
+pub mod Cover
+pub mod Match
+pub mod Exactly
+mod Worked

@@ -1,0 +1,85 @@
+-- The ways out of `covers`, `matches` and `is_pattern`. Assumes nothing.
+use Prim.Native.Nat.{ℕ, _+_, _-_, _<_, _≤_}
+use mathlib.Core.Path.{_≡_, refl, sym, _∙_}
+use mathlib.Core.Bool.{Bool, true, false, cond, _&&_, _||_, and-false, or-false}
+use mathlib.Core.List.{List, [], _∷_}
+use native.Mathlib.Omega.{arith}
+use lib.Dec.{eqb, leb, ltb}
+use lib.ListN.{length, getD, take, drop}
+use borrow.Author.Needs.{needs}
+use borrow.Author.Tests.{not-true, not-false, lt-ltb, le-ltb, leb-true, eqb-true}
+use Rattle.lists.specs.Bytes.{within, all}
+use Rattle.lists.specs.Equal.{sameText}
+use Rattle.lists.specs.Split.{indexOf, split, toFirst}
+use Rattle.lists.proofs.Laws.{take-rest}
+use Rattle.names.specs.Name.{labelByte, isLabel, isName, isStarred, isWildcard, isPattern, afterFirst, matchesName}
+use Rattle.names.specs.Scan.{coversName}
+use Rattle.names.proofs.Cover.{and-both, matches-covers}
+
+-- `matches`: r is what `is_name` gave
+module _ (p n : List ℕ) (r : Bool) (named : r ≡ isName n) where
+  pub no-name : r ≡ false → false ≡ matchesName p n
+  unfolding matchesName
+  no-name f = cc
+
+  pub name-covered : r ≡ true → (x : Bool) → x ≡ coversName p n → x ≡ matchesName p n
+  name-covered t x e = e ∙ matches-covers p n (sym named ∙ t)
+
+pub ruleset matches-laws = (no-name, name-covered, not-true, not-false, needs)
+
+-- what begins with `*.` has two bytes at least
+pub starred-long : (p : List ℕ) (r : Bool) → r ≡ isStarred p → r ≡ true → 2 ≤ length p
+unfolding isStarred
+starred-long p r gave t = leb-true 2 (length p) (and-both (leb 2 (length p)) (eqb (getD p 0 0) 42) (and-both (leb 2 (length p) && eqb (getD p 0 0) 42) (eqb (getD p 1 0) 46) (sym gave ∙ t) .0) .0)
+
+-- `covers`: q, r, v are what its calls gave
+module _ (p n : List ℕ) (q : Bool) (whole : q ≡ sameText p n) where
+  pub cover-equal : q ≡ true → true ≡ coversName p n
+  unfolding coversName
+  cover-equal t = cc
+
+  module _ (qf : q ≡ false) (r : Bool) (gave : r ≡ isStarred p) where
+    pub cover-plain : r ≡ false → false ≡ coversName p n
+    unfolding coversName
+    cover-plain f = cc
+
+    module _ (t : r ≡ true) (dot : ℕ) (found : dot ≡ 0 + indexOf 46 (drop 0 n)) where
+      pub cover-one-label : length n ≤ dot → false ≡ coversName p n
+      unfolding coversName
+      cover-one-label h =
+          let k : length n ≤ indexOf 46 n = omega arith in
+          cc (le-ltb (indexOf 46 n) (length n) k)
+
+      pub cover-rest : dot < length n → (v : Bool) → v ≡ sameText (take (length p - 2) (drop 2 p)) (take (length n - (dot + 1)) (drop (dot + 1) n)) → v ≡ coversName p n
+      unfolding coversName
+      cover-rest h v e =
+          let k : dot ≡ indexOf 46 n = omega arith in
+          cc (lt-ltb dot (length n) h, take-rest p 2, take-rest n (dot + 1))
+
+pub ruleset covers-laws = (cover-equal, cover-plain, cover-one-label, cover-rest, starred-long, not-true, not-false, needs)
+
+-- a text that begins with a star is no name
+pub star-no-name : (p : List ℕ) → getD p 0 0 ≡ 42 → isName p ≡ false
+unfolding isName isLabel labelByte split toFirst all
+star-no-name [] h = refl
+star-no-name (x ∷ s) h = go (split 46 s)
+  where
+    go : (ps : List (List ℕ)) → (within 1 253 (length (x ∷ s)) && all isLabel (cond (eqb x 46) ([] ∷ ps) (toFirst x ps))) ≡ false
+    go [] = simp (h, and-false)
+    go (q ∷ qs) = simp (h, and-false)
+
+pub starred-no-name : (p : List ℕ) → isStarred p ≡ true → isName p ≡ false
+unfolding isStarred
+starred-no-name p h = star-no-name p (eqb-true (getD p 0 0) 42 (and-both (leb 2 (length p)) (eqb (getD p 0 0) 42) (and-both (leb 2 (length p) && eqb (getD p 0 0) 42) (eqb (getD p 1 0) 46) h .0) .1))
+
+-- `is_pattern`: r is what `is_starred` gave
+module _ (p : List ℕ) (r : Bool) (gave : r ≡ isStarred p) (v : Bool) where
+  pub pattern-plain : r ≡ false → v ≡ isName p → v ≡ isPattern p
+  unfolding isPattern isWildcard
+  pattern-plain f e = simp (sym gave ∙ f, or-false) e
+
+  pub pattern-wild : r ≡ true → v ≡ isName (take (length p - 2) (drop 2 p)) → v ≡ isPattern p
+  unfolding isPattern isWildcard
+  pattern-wild t e = cc (starred-no-name p (sym gave ∙ t), take-rest p 2)
+
+pub ruleset pattern-laws = (pattern-plain, pattern-wild, starred-long, not-true, not-false, needs)

@@ -1,0 +1,138 @@
+// Names, and the patterns that match them.
+ghost use mathlib.Core.Path.{_≡_};
+ghost use Prim.Native.Nat.{_+_};
+ghost use lib.ListN.{drop};
+ghost use Rattle.lists.specs.Span.{spanOf};
+ghost use Rattle.names.specs.Name.{labelByte, isName, isStarred, isPattern, matchesName};
+ghost use Rattle.names.specs.Scan.{labelEnds, coversName};
+
+// Whether b is a letter, a digit or a hyphen.
+fn is_label_byte(b: u8) -> bool
+    ensures { λ r. ⌜ r ≡ labelByte b ⌝ }
+{
+    match b {
+        b'a'..=b'z' => true,
+        b'A'..=b'Z' => true,
+        b'0'..=b'9' => true,
+        b'-' => true,
+        _ => false,
+    }
+}
+
+// The first place of s at or after `from` where no byte of a label stands; `from` where it is past the end.
+fn label_end(s: &[u8], from: usize) -> usize
+    ensures { λ r. ⌜ r ≡ from + spanOf labelByte (drop from (now (s .entry))) ⌝ }
+{
+    let mut i = from;
+    while i < s.len() {
+        let good = is_label_byte(s[i]);
+        if !good {
+            return i;
+        }
+        i += 1;
+    }
+    i
+}
+
+// Whether l has 1 to 63 bytes and no hyphen at either end.
+fn has_label_ends(l: &[u8]) -> bool
+    ensures { λ r. ⌜ r ≡ labelEnds (now (l .entry)) ⌝ }
+{
+    if l.len() < 1 {
+        return false;
+    }
+    if 63 < l.len() {
+        return false;
+    }
+    if l[0] == b'-' {
+        return false;
+    }
+    if l[l.len() - 1] == b'-' {
+        return false;
+    }
+    true
+}
+
+// Whether s is a name: 1 to 253 bytes, labels joined by single dots.
+pub fn is_name(s: &[u8]) -> bool
+    ensures { λ r. ⌜ r ≡ isName (now (s .entry)) ⌝ }
+{
+    if s.len() < 1 {
+        return false;
+    }
+    if 253 < s.len() {
+        return false;
+    }
+    let mut start = 0;
+    loop {
+        let end = label_end(s, start);
+        let good = has_label_ends(&s[start..end]);
+        if !good {
+            return false;
+        }
+        if s.len() <= end {
+            return true;
+        }
+        if s[end] != b'.' {
+            return false;
+        }
+        start = end + 1;
+    }
+}
+
+// Whether p begins with `*.`.
+fn is_starred(p: &[u8]) -> bool
+    ensures { λ r. ⌜ r ≡ isStarred (now (p .entry)) ⌝ }
+{
+    if p.len() < 2 {
+        return false;
+    }
+    if p[0] != b'*' {
+        return false;
+    }
+    if p[1] != b'.' {
+        return false;
+    }
+    true
+}
+
+// Whether p is a pattern: a name, or `*.` and a name.
+pub fn is_pattern(p: &[u8]) -> bool
+    ensures { λ r. ⌜ r ≡ isPattern (now (p .entry)) ⌝ }
+{
+    let starred = is_starred(p);
+    if starred {
+        return is_name(&p[2..]);
+    }
+    is_name(p)
+}
+
+// Whether the pattern covers n: for a name n, whether it matches n. The pattern needs no test of its own, since what equals a name is one.
+pub fn covers(pattern: &[u8], n: &[u8]) -> bool
+    ensures { λ r. ⌜ r ≡ coversName (now (pattern .entry)) (now (n .entry)) ⌝ }
+{
+    let equal = lists::equal_ignoring_case(pattern, n);
+    if equal {
+        return true;
+    }
+    let starred = is_starred(pattern);
+    if !starred {
+        return false;
+    }
+    let dot = lists::find(n, b'.', 0);
+    if n.len() <= dot {
+        return false;
+    }
+    lists::equal_ignoring_case(&pattern[2..], &n[dot + 1..])
+}
+
+// Whether the pattern matches the name n; false where n is no name, or the pattern is neither a name nor `*.` and a name.
+pub fn matches(pattern: &[u8], n: &[u8]) -> bool
+    ensures { λ r. ⌜ r ≡ matchesName (now (pattern .entry)) (now (n .entry)) ⌝ }
+{
+    let named = is_name(n);
+    if !named {
+        return false;
+    }
+    covers(pattern, n)
+}

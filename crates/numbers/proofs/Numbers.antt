@@ -1,0 +1,145 @@
+-- Laws of `numbers` by place, and the turns of the loops over a list's numbers. Assumes nothing.
+use Prim.Native.Nat.{ℕ, zero, suc, _+_, _*_, _-_, _/_, _%_, _<_, _≤_}
+use mathlib.Core.Path.{_≡_, refl, sym, _∙_}
+use mathlib.Core.Bool.{Bool, true, false, _&&_, and-false}
+use mathlib.Core.List.{List, [], _∷_}
+use native.Mathlib.Nat.{add-zero}
+use native.Mathlib.Omega.{arith}
+use lib.Dec.{eqb, leb}
+use lib.ListN.{length, getD, drop, length-drop, drop-of-length-le, List·getD-eq-default}
+use lib.Seq.{getD-drop}
+use borrow.Author.Needs.{needs}
+use borrow.Author.Tests.{not-true, not-false, le-leb, lt-leb, leb-true, eq-eqb, ne-eqb}
+use Rattle.lists.specs.Bytes.{all}
+use Rattle.lists.proofs.Laws.{drop-next}
+use Rattle.numbers.specs.Numbers.{word, numbers, isWhole, sum, atMost, written}
+use Rattle.numbers.specs.Pieces.{sumsTo}
+
+-- a list of n bytes has n / 4 numbers
+pub count-is : (s : List ℕ) → length s / 4 ≡ length (numbers s)
+unfolding numbers
+count-is [] = refl
+count-is (a ∷ []) = refl
+count-is (a ∷ b ∷ []) = refl
+count-is (a ∷ b ∷ c ∷ []) = refl
+count-is (a ∷ b ∷ c ∷ d ∷ s) = omega (arith, count-is s)
+
+-- the numbers after the first k are those of the bytes after the first 4k
+pub numbers-drop : (k : ℕ) (s : List ℕ) → numbers (drop (k * 4) s) ≡ drop k (numbers s)
+unfolding numbers
+numbers-drop zero s = refl
+numbers-drop (suc k) s = let four : suc k * 4 ≡ suc (suc (suc (suc (k * 4)))) = omega arith in rw four (go (numbers-drop k) s)
+  where
+    go : ((s : List ℕ) → numbers (drop (k * 4) s) ≡ drop k (numbers s)) → (s : List ℕ) → numbers (drop (suc (suc (suc (suc (k * 4))))) s) ≡ drop (suc k) (numbers s)
+    go ih [] = refl
+    go ih (a ∷ []) = refl
+    go ih (a ∷ b ∷ []) = refl
+    go ih (a ∷ b ∷ c ∷ []) = refl
+    go ih (a ∷ b ∷ c ∷ d ∷ s) = ih s
+
+first-is : (s : List ℕ) → 4 ≤ length s → getD (numbers s) 0 0 ≡ word (getD s 0 0) (getD s 1 0) (getD s 2 0) (getD s 3 0)
+unfolding numbers
+first-is [] h = absurd (omega arith)
+first-is (a ∷ []) h = absurd (omega arith)
+first-is (a ∷ b ∷ []) h = absurd (omega arith)
+first-is (a ∷ b ∷ c ∷ []) h = absurd (omega arith)
+first-is (a ∷ b ∷ c ∷ d ∷ s) h = refl
+
+-- `number`: the number at place k is that of the four bytes from 4k on
+module _ (s : List ℕ) (k : ℕ) where
+  pub number-outside : length s / 4 ≤ k → 0 ≡ getD (numbers s) k 0
+  number-outside h = sym (List·getD-eq-default (numbers s) 0 (omega (arith, count-is s)))
+
+  pub number-inside : (a b c d : ℕ) → k < length s / 4 → a ≡ getD s (k * 4) 0 → b ≡ getD s (k * 4 + 1) 0 → c ≡ getD s (k * 4 + 2) 0 → d ≡ getD s (k * 4 + 3) 0 → ((a * 256 + b) * 256 + c) * 256 + d ≡ getD (numbers s) k 0
+  number-inside a b c d h p q r t =
+      let l : 4 ≤ length (drop (k * 4) s) = omega (arith, length-drop (k * 4) s) in
+      let e : getD (numbers (drop (k * 4) s)) 0 0 ≡ word (getD (drop (k * 4) s) 0 0) (getD (drop (k * 4) s) 1 0) (getD (drop (k * 4) s) 2 0) (getD (drop (k * 4) s) 3 0) = first-is (drop (k * 4) s) l in
+      rw (p, q, r, t) (sym (simp (numbers-drop, getD-drop, add-zero) at e))
+
+pub ruleset number-laws = (number-outside, number-inside, needs)
+
+-- a loop that tests every number of a list: v is what `number` gave, r what the test p gave of it, n what `count` gave
+module _ (p : ℕ → Bool) (ns : List ℕ) (k n : ℕ) (inv : all p ns ≡ all p (drop k ns)) (counted : n ≡ length ns) where
+  pub each-end : n ≤ k → true ≡ all p ns
+  unfolding all
+  each-end h = let g : length ns ≤ k = omega arith in cc (drop-of-length-le ns g)
+
+  module _ (h : k < n) (v : ℕ) (given : v ≡ getD ns k 0) (r : Bool) (gave : r ≡ p v) where
+    pub each-next : r ≡ true → all p ns ≡ all p (drop (k + 1) ns)
+    unfolding all
+    each-next t = let g : k < length ns = omega arith in cc (drop-next ns k g)
+
+    pub each-fail : r ≡ false → false ≡ all p ns
+    unfolding all
+    each-fail t = let g : k < length ns = omega arith in cc (drop-next ns k g)
+
+pub ruleset each-laws = (each-next, each-fail, each-end, not-true, not-false, needs)
+
+-- `all_at_most`
+module _ (bound : ℕ) (ns : List ℕ) (k n : ℕ) (inv : all (atMost bound) ns ≡ all (atMost bound) (drop k ns)) (counted : n ≡ length ns) (h : k < n) (v : ℕ) (given : v ≡ getD ns k 0) where
+  pub most-next : v ≤ bound → all (atMost bound) ns ≡ all (atMost bound) (drop (k + 1) ns)
+  unfolding atMost
+  most-next le = each-next (atMost bound) ns k n inv counted h v given true (sym (le-leb v bound le)) refl
+
+  pub most-fail : bound < v → false ≡ all (atMost bound) ns
+  unfolding atMost
+  most-fail gt = each-fail (atMost bound) ns k n inv counted h v given false (sym (lt-leb v bound gt)) refl
+
+pub ruleset most-laws = (most-next, most-fail, each-end, needs)
+
+nothing-left : (left a b : ℕ) → left + a ≡ b → eqb left 0 ≡ eqb a b
+nothing-left zero a b h = sym (eq-eqb a b (omega arith))
+nothing-left (suc k) a b h = ne-eqb (suc k) 0 (λ z. omega arith) ∙ sym (ne-eqb a b (λ z. omega arith))
+
+-- `sums_to`: a turn of its loop, and its ways out; w is what `is_whole` gave
+module _ (list : List ℕ) (total : ℕ) (w : Bool) (whole : w ≡ isWhole list) where
+  pub sums-left-over : w ≡ false → false ≡ sumsTo list total
+  unfolding sumsTo
+  sums-left-over f = cc
+
+  module _ (left k n : ℕ) (inv : left + sum (numbers list) ≡ total + sum (drop k (numbers list))) (counted : n ≡ length (numbers list)) where
+    sum-here : (v : ℕ) → k < n → v ≡ getD (numbers list) k 0 → sum (drop k (numbers list)) ≡ v + sum (drop (k + 1) (numbers list))
+    unfolding sum
+    sum-here v h e = let g : k < length (numbers list) = omega arith in cc (drop-next (numbers list) k g)
+
+    sum-none : n ≤ k → sum (drop k (numbers list)) ≡ 0
+    unfolding sum
+    sum-none h = let g : length (numbers list) ≤ k = omega arith in cc (drop-of-length-le (numbers list) g)
+
+    pub sums-next : (v : ℕ) → k < n → v ≡ getD (numbers list) k 0 → v ≤ left → left - v + sum (numbers list) ≡ total + sum (drop (k + 1) (numbers list))
+    sums-next v h e le = omega (arith, sum-here v h e)
+
+    pub sums-over : (v : ℕ) → k < n → v ≡ getD (numbers list) k 0 → left < v → false ≡ sumsTo list total
+    unfolding sumsTo
+    sums-over v h e lt = rw (ne-eqb (sum (numbers list)) total (λ z. omega (arith, sum-here v h e))) (sym (and-false (isWhole list)))
+
+    pub sums-end : n ≤ k → w ≡ true → eqb left 0 ≡ sumsTo list total
+    unfolding sumsTo
+    sums-end h t =
+        let z : eqb left 0 ≡ eqb (sum (numbers list)) total = nothing-left left (sum (numbers list)) total (omega (arith, sum-none h)) in
+        cc
+
+pub ruleset sums-laws = (sums-left-over, sums-next, sums-over, sums-end, not-true, not-false, needs)
+
+four-is : (n : ℕ) → n < 4294967296 → word (n / 16777216) (n / 65536 % 256) (n / 256 % 256) (n % 256) ≡ n
+four-is n h = omega arith
+
+-- numbers written as a list are read back
+pub numbers-written : (ns : List ℕ) → all (atMost 4294967295) ns ≡ true → numbers (written ns) ≡ ns
+unfolding numbers written all atMost
+numbers-written [] h = refl
+numbers-written (n ∷ ns) h = go (numbers-written ns) (leb n 4294967295) refl h
+  where
+    go : (all (atMost 4294967295) ns ≡ true → numbers (written ns) ≡ ns) → (t : Bool) → leb n 4294967295 ≡ t → (t && all (atMost 4294967295) ns) ≡ true → numbers (written (n ∷ ns)) ≡ n ∷ ns
+    go ih true e k = rw (ih k, four-is n (omega (arith, leb-true n 4294967295 e)))
+    go ih false e k = absurd (let z : _≡_ {A = ℕ} 0 1 = cc in omega arith)
+
+-- a list written has four bytes for each number, so that none are left over
+pub written-length : (ns : List ℕ) → length (written ns) ≡ length ns * 4
+unfolding written
+written-length [] = refl
+written-length (n ∷ ns) = omega (arith, written-length ns)
+
+pub written-whole : (ns : List ℕ) → isWhole (written ns) ≡ true
+unfolding isWhole
+written-whole ns = eq-eqb (length (written ns) % 4) 0 (omega (arith, written-length ns))

@@ -1,0 +1,133 @@
+// Lists of four-byte numbers, the highest byte first, and the pieces that such a list of lengths cuts.
+ghost use mathlib.Core.Path.{_≡_};
+ghost use mathlib.Core.List.{[]};
+ghost use Prim.Native.Nat.{_*_, _+_, _<_, _≤_};
+ghost use lib.ListN.{length, getD, take, drop};
+ghost use Rattle.lists.specs.Bytes.{all};
+ghost use Rattle.numbers.specs.Numbers.{numbers, isWhole, atMost};
+ghost use Rattle.numbers.specs.Pieces.{cut, sumsTo, endOf};
+
+// A byte as a wide number.
+pub fn wide(x: u8) -> u64
+    ensures { λ r. ⌜ (r ≡ x) × (r < 256) ⌝ }
+{
+    x as u64
+}
+
+// Whether the list has no left-over bytes.
+pub fn is_whole(list: &[u8]) -> bool
+    ensures { λ r. ⌜ r ≡ isWhole (now (list .entry)) ⌝ }
+{
+    list.len() % 4 == 0
+}
+
+// How many numbers the list has.
+pub fn count(list: &[u8]) -> usize
+    ensures { λ r. ⌜ r ≡ length (numbers (now (list .entry))) ⌝ }
+{
+    list.len() / 4
+}
+
+// The number at place k of the list, and 0 where there is none.
+pub fn number(list: &[u8], k: usize) -> u64
+    ensures { λ r. ⌜ (r ≡ getD (numbers (now (list .entry))) k 0) × (r < 4294967296) ⌝ }
+{
+    if list.len() / 4 <= k {
+        return 0;
+    }
+    let i = k * 4;
+    let a = wide(list[i]);
+    let b = wide(list[i + 1]);
+    let c = wide(list[i + 2]);
+    let d = wide(list[i + 3]);
+    ((a * 256 + b) * 256 + c) * 256 + d
+}
+
+// Whether every number of the list is at most the bound.
+pub fn all_at_most(list: &[u8], bound: u64) -> bool
+    ensures { λ r. ⌜ r ≡ all (atMost bound) (numbers (now (list .entry))) ⌝ }
+{
+    let n = count(list);
+    let mut k = 0;
+    while k < n {
+        let v = number(list, k);
+        if bound < v {
+            return false;
+        }
+        k += 1;
+    }
+    true
+}
+
+// Whether the list has no left-over bytes, and its numbers sum to the total. What is left of the total is counted down, so that no sum is too large.
+pub fn sums_to(list: &[u8], total: usize) -> bool
+    ensures { λ r. ⌜ r ≡ sumsTo (now (list .entry)) total ⌝ }
+{
+    let whole = is_whole(list);
+    if !whole {
+        return false;
+    }
+    let n = count(list);
+    let mut left = total as u64;
+    let mut k = 0;
+    while k < n {
+        let v = number(list, k);
+        if left < v {
+            return false;
+        }
+        left -= v;
+        k += 1;
+    }
+    left == 0
+}
+
+// Where the piece of n bytes that starts at `at` ends, of `total` bytes: no further than these go.
+pub fn end_of(total: usize, at: usize, n: u64) -> usize
+    ensures { λ r. ⌜ r ≡ endOf total at n ⌝ }
+{
+    if total < at {
+        return total;
+    }
+    let m = n as usize;
+    if total - at < m {
+        return total;
+    }
+    at + m
+}
+
+// Where the piece at place k, which starts at `at`, ends, of `total` bytes.
+pub fn end_at(lengths: &[u8], k: usize, at: usize, total: usize) -> usize
+    ensures { λ r. ⌜ r ≡ endOf total at (getD (numbers (now (lengths .entry))) k 0) ⌝ }
+{
+    let n = number(lengths, k);
+    end_of(total, at, n)
+}
+
+// The n bytes of s from `start` on, as far as s goes.
+pub fn part(s: &[u8], start: usize, n: u64) -> &[u8]
+    ensures { λ r. ⌜ now r ≡ take n (drop start (now (s .entry))) ⌝ }
+{
+    if s.len() < start {
+        return &s[0..0];
+    }
+    let e = end_of(s.len(), start, n);
+    &s[start..e]
+}
+
+// The piece at place k of s, cut by the lengths; nothing where there is none.
+pub fn piece<'a>(s: &'a [u8], lengths: &[u8], k: usize) -> &'a [u8]
+    ensures { λ r. ⌜ now r ≡ getD (cut (now (s .entry)) (numbers (now (lengths .entry)))) k [] ⌝ }
+{
+    let n = count(lengths);
+    if n <= k {
+        return &s[0..0];
+    }
+    let mut at = 0;
+    let mut j = 0;
+    while j < k {
+        at = end_at(lengths, j, at, s.len());
+        j += 1;
+    }
+    let e = end_at(lengths, k, at, s.len());
+    &s[at..e]
+}

@@ -1,0 +1,89 @@
+/*
+ * tweedstork.h: may a mail relay hand this message to that mail server, and how?
+ *
+ * The relay asks before it delivers, learns what the library asks for, and asks again. The rules are those of
+ * MTA-STS (RFC 8461) and SMTP-DANE (RFC 7672). Every call is proved to answer as its definition says, for every input.
+ *
+ * What the library does not do: it has no resolver, no HTTPS, no TLS, no path checking and no hashing. The relay brings
+ * their results, and the answers are as good as these.
+ *
+ * Conventions
+ * - A number is a uint64_t. A byte slice is a pointer and a length; NULL with length 0 is an empty slice.
+ * - A list of numbers is a byte slice, four bytes each, the highest first.
+ * - An answer is a struct; its first field is the answer number, one of enum tweedstork_number. It is never zero.
+ * - A refusal (40 to 67) has zero in every other field.
+ * - No call keeps a pointer, allocates or has state. Calls may run on any number of threads at once.
+ */
+#ifndef TWEEDSTORK_H
+#define TWEEDSTORK_H
+
+#include <stddef.h>
+#include <stdint.h>
+
+#ifdef __cplusplus
+extern "C" {
+#endif
+
+/* The answer numbers. Zero is none of them: it means that nobody answered. */
+enum tweedstork_number {
+    /* verdicts on a host: deliver */
+    TWEEDSTORK_CLEARTEXT = 1,               /* in cleartext */
+    TWEEDSTORK_ENCRYPTED = 2,               /* encrypted, unauthenticated */
+    TWEEDSTORK_DANE = 3,                    /* authenticated by DANE */
+    TWEEDSTORK_MTA_STS = 4,                 /* authenticated by MTA-STS */
+    TWEEDSTORK_DANE_AND_MTA_STS = 5,        /* authenticated by both */
+    /* a message's hosts */
+    TWEEDSTORK_TRY_HOST = 8,                /* try this host */
+    TWEEDSTORK_NOT_TRIED = 9,               /* (input only) host not tried yet */
+    /* verdicts on a host: go on to the next host */
+    TWEEDSTORK_ADDRESS_FAILED = 20,         /* address lookup failed */
+    TWEEDSTORK_NO_ADDRESS = 21,             /* no address */
+    TWEEDSTORK_TLSA_FAILED = 22,            /* TLSA lookup failed */
+    TWEEDSTORK_NO_PATTERN = 23,             /* no policy pattern matches */
+    TWEEDSTORK_TLS_NOT_OFFERED = 24,        /* TLS needed, not offered */
+    TWEEDSTORK_HANDSHAKE_FAILED = 25,       /* TLS needed, handshake failed */
+    TWEEDSTORK_DANE_MISMATCH = 26,          /* DANE did not match */
+    TWEEDSTORK_MTA_STS_MISMATCH = 27,       /* MTA-STS certificate check did not pass */
+    /* a message's hosts: delay */
+    TWEEDSTORK_MX_LOOKUP_FAILED = 30,       /* MX lookup failed */
+    TWEEDSTORK_NO_HOST_LEFT = 31,           /* every host is a "next host" */
+    /* refusals */
+    TWEEDSTORK_BAD_HOST_LIST = 63,          /* host list empty, over 32, lists of unequal length or with left-over bytes,
+                                               a preference over 65,535, or a number that is no host verdict */
+    TWEEDSTORK_BAD_CODE = 67                /* an input code outside its named choices */
+};
+
+/* Was the MX lookup answered? */
+enum tweedstork_mx_lookup {
+    TWEEDSTORK_MX_ANSWERED = 1,
+    TWEEDSTORK_MX_FAILED = 2
+};
+
+struct tweedstork_message_answer {
+    uint64_t number;
+    uint64_t position;
+};
+
+/*
+ * Which of a message's hosts decides?
+ *
+ * Takes:   mx_lookup: TWEEDSTORK_MX_ANSWERED or TWEEDSTORK_MX_FAILED.
+ *          preferences: list of numbers, 1 to 32 of them, each 0 to 65,535, a host each.
+ *          verdicts: list of numbers, one for each host: TWEEDSTORK_NOT_TRIED, or the verdict that it got (1 to 5, 20 to 27).
+ * Answers: hosts are taken by preference, lower first, equal ones as given. The first that is no "next host" (20 to 27)
+ *          decides: one not tried yet gives TWEEDSTORK_TRY_HOST and its position, a verdict 1 to 5 is handed on with its
+ *          position. Positions count from 0 in the lists as given. TWEEDSTORK_NO_HOST_LEFT where every host is a "next
+ *          host", TWEEDSTORK_MX_LOOKUP_FAILED where the lookup failed (the lists are then not looked at); position 0 then.
+ *          Refusals: TWEEDSTORK_BAD_CODE, then TWEEDSTORK_BAD_HOST_LIST.
+ * Leaves:  all memory as it was.
+ */
+struct tweedstork_message_answer tweedstork_next_host(
+    uint64_t mx_lookup,
+    const uint8_t *preferences, size_t preferences_length,
+    const uint8_t *verdicts, size_t verdicts_length);
+
+#ifdef __cplusplus
+}
+#endif
+
+#endif
