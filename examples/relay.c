@@ -69,7 +69,7 @@ int main(int argc, char **argv)
             if (answer.number <= TWEEDSTORK_DANE_AND_MTA_STS)
                 printf(", to host %" PRIu64, answer.position);
             printf("\n");
-            return answer.number <= TWEEDSTORK_DANE_AND_MTA_STS ? 0 : 1;
+            return answer.number < TWEEDSTORK_BAD_HOST_LIST ? 0 : 1;
         }
         uint32_t learnt = outcome[answer.position];
         printf("answer %d: try host %" PRIu64 "; it gets verdict %" PRIu32 " (%s)\n", TWEEDSTORK_TRY_HOST, answer.position, learnt, words(learnt));

@@ -1,0 +1,106 @@
+-- The host that decides is found from the last host given to the first, without the order: it is the first of the order that is not a "next host".
+-- Assumes nothing.
+use Prim.Native.Nat.{ℕ, _+_, _-_, _<_, _≤_}
+use mathlib.Core.Path.{_≡_, refl, sym, ap, _∙_}
+use mathlib.Core.Bool.{Bool, true, false, cond}
+use mathlib.Core.List.{List, [], _∷_}
+use native.Mathlib.Omega.{arith}
+use lib.Dec.{leb}
+use lib.ListN.{length, getD, take, drop}
+use lib.Seq.{length-take-le, getD-take}
+use borrow.Author.Needs.{needs}
+use borrow.Author.Tests.{le-leb, leb-true}
+use Rattle.lists.specs.Bytes.{all}
+use Rattle.messages.specs.declared.Decider.{Decider}
+use Rattle.messages.specs.declared.Decider.the-variants.{Nobody}
+use Rattle.messages.specs.Hosts.{Host, isNextHost, hostsFrom, hostsOf, insert, inOrder, answerOf, decided}
+use Rattle.messages.specs.Order.{comesBefore, isOrdered}
+use Rattle.messages.specs.Search.{decider, before, withHost, deciderOf, decidedBy}
+use Rattle.messages.proofs.Bools.{and-left, and-right, and-both, all-more}
+use Rattle.messages.proofs.Order.{before-facts, hosts-ordered, hosts-next, hosts-end}
+
+-- the first host of a list that is not a "next host"
+unfoldable firstIn : List Host → Decider
+firstIn [] = Nobody
+firstIn (x ∷ xs) = cond (isNextHost (x .verdict)) (firstIn xs) (decider x)
+
+first-answers : (xs : List Host) → decided xs ≡ decidedBy (firstIn xs)
+unfolding decided firstIn decidedBy
+first-answers [] = refl
+first-answers (x ∷ xs) = go (first-answers xs) (isNextHost (x .verdict))
+  where
+    go : decided xs ≡ decidedBy (firstIn xs) → (t : Bool) → cond t (decided xs) (answerOf x) ≡ decidedBy (cond t (firstIn xs) (decider x))
+    go ih true = ih
+    go ih false = refl
+
+-- a host's preference is at least p
+abbrev atLeast : ℕ → Host → Bool
+atLeast p x = leb p (x .preference)
+
+-- h goes before any host of a list whose preferences are not lower
+first-higher : (h : Host) (xs : List Host) → all (atLeast (h .preference)) xs ≡ true → before h (firstIn xs) ≡ decider h
+unfolding all firstIn before
+first-higher h [] g = refl
+first-higher h (x ∷ xs) g = go (first-higher h xs (and-right (atLeast (h .preference) x) (all (atLeast (h .preference)) xs) g)) (isNextHost (x .verdict))
+  where
+    go : before h (firstIn xs) ≡ decider h → (t : Bool) → before h (cond t (firstIn xs) (decider x)) ≡ decider h
+    go ih true = ih
+    go ih false = rw (and-left (atLeast (h .preference) x) (all (atLeast (h .preference)) xs) g)
+
+higher : (h x : Host) (xs : List Host) → isOrdered (x ∷ xs) ≡ true → h .preference ≤ x .preference → all (atLeast (h .preference)) (x ∷ xs) ≡ true
+unfolding all isOrdered
+higher h x xs o l =
+    and-both (atLeast (h .preference) x) (all (atLeast (h .preference)) xs) (le-leb (h .preference) (x .preference) l)
+    (all-more (comesBefore x) (atLeast (h .preference)) (λ y b. let q : x .preference ≤ y .preference = before-facts x y b .0 in le-leb (h .preference) (y .preference) (omega arith))
+    xs (and-left (all (comesBefore x) xs) (isOrdered xs) o))
+
+first-insert : (h : Host) (xs : List Host) → isOrdered xs ≡ true → firstIn (insert h xs) ≡ withHost h (firstIn xs)
+unfolding firstIn insert withHost before isOrdered
+first-insert h [] o = refl
+first-insert h (x ∷ xs) o = go (first-insert h xs (and-right (all (comesBefore x) xs) (isOrdered xs) o)) (leb (h .preference) (x .preference)) refl
+  where
+    later : leb (h .preference) (x .preference) ≡ false → (t : Bool) → decider x ≡ cond t (decider x) (before h (decider x))
+    later e true = refl
+    later e false = rw e
+
+    pass : firstIn (insert h xs) ≡ withHost h (firstIn xs) → leb (h .preference) (x .preference) ≡ false → (t : Bool) → cond t (firstIn (insert h xs)) (decider x) ≡ withHost h (cond t (firstIn xs) (decider x))
+    pass ih e true = ih
+    pass ih e false = later e (isNextHost (h .verdict))
+
+    go : firstIn (insert h xs) ≡ withHost h (firstIn xs) → (t : Bool) → leb (h .preference) (x .preference) ≡ t → firstIn (cond t (h ∷ x ∷ xs) (x ∷ insert h xs)) ≡ withHost h (firstIn (x ∷ xs))
+    go ih true e =
+        let q : before h (firstIn (x ∷ xs)) ≡ decider h = first-higher h (x ∷ xs) (higher h x xs o (leb-true (h .preference) (x .preference) e)) in
+        ap (λ (d : Decider). cond (isNextHost (h .verdict)) (firstIn (x ∷ xs)) d) (sym q)
+    go ih false e = pass ih e (isNextHost (x .verdict))
+
+first-is : (k : ℕ) (ps vs : List ℕ) → firstIn (inOrder (hostsFrom k ps vs)) ≡ deciderOf (hostsFrom k ps vs)
+unfolding firstIn inOrder hostsFrom deciderOf
+first-is k [] vs = refl
+first-is k (p ∷ ps) [] = refl
+first-is k (p ∷ ps) (v ∷ vs) =
+    first-insert (record { preference = p; verdict = v; position = k }) (inOrder (hostsFrom (k + 1) ps vs)) (hosts-ordered (k + 1) ps vs)
+    ∙ ap (withHost (record { preference = p; verdict = v; position = k })) (first-is (k + 1) ps vs)
+
+-- what the host found answers is what the first of the order that is not a "next host" answers
+pub decider-answers : (ps vs : List ℕ) → decided (inOrder (hostsOf ps vs)) ≡ decidedBy (deciderOf (hostsOf ps vs))
+decider-answers ps vs = first-answers (inOrder (hostsOf ps vs)) ∙ ap decidedBy (first-is 0 ps vs)
+
+-- `find_decider`: a turn of its loop at place k - 1, and its two ends; d is the host that decides among those from k on, r what `with_host` gave
+module _ (ps vs : List ℕ) (count : ℕ) where
+  pub find-start : length ps ≡ 32 → count ≤ 32 → Nobody ≡ deciderOf (hostsFrom count (drop count (take count ps)) (drop count (take count vs)))
+  unfolding deciderOf
+  find-start full fits = let g : length (take count ps) ≤ count = omega (arith, length-take-le count ps (omega arith)) in rw (hosts-end (take count ps) (take count vs) count g)
+
+  module _ (k : ℕ) (d : Decider) (inv : d ≡ deciderOf (hostsFrom k (drop k (take count ps)) (drop k (take count vs)))) where
+    pub find-next : length ps ≡ 32 → length vs ≡ 32 → count ≤ 32 → 0 < k → k ≤ count → (r : Decider) → r ≡ withHost (record { preference = getD ps (k - 1) 0; verdict = getD vs (k - 1) 0; position = k - 1 }) d → r ≡ deciderOf (hostsFrom (k - 1) (drop (k - 1) (take count ps)) (drop (k - 1) (take count vs)))
+    unfolding deciderOf
+    find-next full full₂ fits pos le r gave =
+        let j : k - 1 < length (take count ps) = omega (arith, length-take-le count ps (omega arith)) in
+        let i : k - 1 < length (take count vs) = omega (arith, length-take-le count vs (omega arith)) in
+        let e : k - 1 + 1 ≡ k = omega arith in
+        rw (hosts-next (take count ps) (take count vs) (k - 1) j i, e, getD-take count ps (k - 1) 0 (omega arith), getD-take count vs (k - 1) 0 (omega arith), sym inv) gave
+
+    pub find-end : k ≤ 0 → d ≡ deciderOf (hostsOf (take count ps) (take count vs))
+    find-end h = let e : k ≡ 0 = omega arith in rw e at inv
+
+pub ruleset find-laws = (find-start, find-next, find-end, needs)

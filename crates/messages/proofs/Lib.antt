@@ -1,0 +1,8 @@
+pub mod Bools
+pub mod Arrays
+pub mod Order
+pub mod Unique
+pub mod Finds
+pub mod Ways
+pub mod Decision
+mod Worked

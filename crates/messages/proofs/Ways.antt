@@ -1,0 +1,165 @@
+-- The ways out of the functions that have no loop. Assumes nothing.
+use Prim.Native.Nat.{ℕ, _<_, _≤_}
+use mathlib.Core.Path.{_≡_, refl, sym, ap, _∙_}
+use mathlib.Core.Bool.{Bool, true, false, _&&_, and-false}
+use mathlib.Core.List.{List}
+use native.Mathlib.Omega.{arith}
+use lib.Dec.{eqb}
+use lib.ListN.{length, take}
+use lib.Seq.{length-take-le}
+use borrow.Author.Needs.{needs}
+use borrow.Author.Tests.{not-true, not-false, le-leb, lt-leb, eq-eqb, ne-eqb}
+use Rattle.lists.specs.Bytes.{within, all}
+use Rattle.numbers.specs.Numbers.{numbers, isWhole}
+use Rattle.messages.specs.declared.MessageAnswer.{MessageAnswer}
+use Rattle.messages.specs.declared.MxLookup.{MxLookup}
+use Rattle.messages.specs.declared.MxLookup.the-variants.{Answered, Failed}
+use Rattle.messages.specs.declared.Decider.{Decider}
+use Rattle.messages.specs.declared.Decider.the-variants.{Is, Nobody}
+use Rattle.messages.specs.Hosts.{isPreference, isNextHost, isHostVerdict, isHostList, hostsOf, noHost, answerOf, messageAnswer, hostsAnswer, listsAnswer, nextHost}
+use Rattle.messages.specs.Search.{before, withHost, deciderOf, decidedBy}
+use Rattle.messages.proofs.Finds.{decider-answers}
+
+-- `is_host_verdict`
+module _ (v : ℕ) where
+  pub verdict-nine : v ≡ 9 → true ≡ isHostVerdict v
+  unfolding isHostVerdict
+  verdict-nine h = cc
+
+  pub verdict-zero : v ≡ 0 → false ≡ isHostVerdict v
+  unfolding isHostVerdict isNextHost
+  verdict-zero h = cc
+
+  pub verdict-final : (v ≡ 0 → ⊥) → v ≤ 5 → true ≡ isHostVerdict v
+  unfolding isHostVerdict
+  verdict-final z h = rw (ne-eqb v 9 (λ e. omega arith), le-leb 1 v (omega arith), le-leb v 5 h)
+
+  pub verdict-next : (v ≡ 9 → ⊥) → 5 < v → (r : Bool) → r ≡ isNextHost v → r ≡ isHostVerdict v
+  unfolding isHostVerdict
+  verdict-next n h r e = rw (ne-eqb v 9 n, le-leb 1 v (omega arith), lt-leb v 5 h) e
+
+pub ruleset verdict-laws = (verdict-nine, verdict-zero, verdict-final, verdict-next, needs)
+
+-- `is_host_list`: r is what `are_preferences` gave, s what `are_verdicts` gave
+module _ (ps vs : List ℕ) (count : ℕ) (full : length ps ≡ 32) (full₂ : length vs ≡ 32) (fits : count ≤ 32) where
+  list-is : isHostList (take count ps) (take count vs) ≡ (within 1 32 count && eqb count count && all isPreference (take count ps) && all isHostVerdict (take count vs))
+  unfolding isHostList
+  list-is = rw (length-take-le count ps (omega arith), length-take-le count vs (omega arith))
+
+  pub list-empty : count ≡ 0 → false ≡ isHostList (take count ps) (take count vs)
+  list-empty h = rw (list-is, h)
+
+  module _ (h : count ≡ 0 → ⊥) (r : Bool) (gave : r ≡ all isPreference (take count ps)) where
+    pub list-preference : r ≡ false → false ≡ isHostList (take count ps) (take count vs)
+    list-preference f = rw (list-is, le-leb 1 count (omega arith), le-leb count 32 fits, eq-eqb count count refl, sym gave, f)
+
+    pub list-verdicts : r ≡ true → (s : Bool) → s ≡ all isHostVerdict (take count vs) → s ≡ isHostList (take count ps) (take count vs)
+    list-verdicts t s e = rw (list-is, le-leb 1 count (omega arith), le-leb count 32 fits, eq-eqb count count refl, sym gave, t) e
+
+pub ruleset list-laws = (list-empty, list-preference, list-verdicts, not-true, not-false, needs)
+
+-- `with_host`: r is what `is_next_host` gave of the host's verdict
+module _ (p v k : ℕ) (d : Decider) (r : Bool) (gave : r ≡ isNextHost v) where
+  pub with-next : r ≡ true → d ≡ withHost (record { preference = p; verdict = v; position = k }) d
+  unfolding withHost
+  with-next t = rw (sym gave, t)
+
+  module _ (f : r ≡ false) where
+    pub with-first : d ≡ Nobody → Decider.Is p v k ≡ withHost (record { preference = p; verdict = v; position = k }) d
+    unfolding withHost before
+    with-first e = rw (sym gave, f, e)
+
+    pub with-lower : (q w j : ℕ) → d ≡ Is q w j → q < p → Decider.Is q w j ≡ withHost (record { preference = p; verdict = v; position = k }) d
+    unfolding withHost before
+    with-lower q w j e l = rw (sym gave, f, e, lt-leb p q l)
+
+    pub with-higher : (q w j : ℕ) → d ≡ Is q w j → p ≤ q → Decider.Is p v k ≡ withHost (record { preference = p; verdict = v; position = k }) d
+    unfolding withHost before
+    with-higher q w j e l = rw (sym gave, f, e, le-leb p q l)
+
+pub ruleset with-laws = (with-next, with-first, with-lower, with-higher, needs)
+
+-- `decided_by`
+module _ (d : Decider) where
+  pub decided-none : (r : MessageAnswer) → r ≡ noHost 31 → d ≡ Nobody → r ≡ decidedBy d
+  unfolding decidedBy
+  decided-none r e n = rw n e
+
+  module _ (p v k : ℕ) (e : d ≡ Is p v k) where
+    pub decided-nine : v ≡ 9 → _≡_ {A = MessageAnswer} (record { number = 8; position = k }) (decidedBy d)
+    unfolding decidedBy answerOf
+    decided-nine n = rw (e, eq-eqb v 9 n)
+
+    pub decided-final : (v ≡ 9 → ⊥) → _≡_ {A = MessageAnswer} (record { number = v; position = k }) (decidedBy d)
+    unfolding decidedBy answerOf
+    decided-final n = rw (e, ne-eqb v 9 n)
+
+pub ruleset decided-laws = (decided-none, decided-nine, decided-final, needs)
+
+-- `first_host`: r is its answer, t what `is_host_list` gave, d what `find_decider` gave
+module _ (ps vs : List ℕ) (count : ℕ) (r : MessageAnswer) where
+  pub first-over : 32 < count → r ≡ noHost 63 → r ≡ hostsAnswer count ps vs
+  unfolding hostsAnswer
+  first-over h e = rw (lt-leb count 32 h) e
+
+  module _ (h : count ≤ 32) (t : Bool) (gave : t ≡ isHostList (take count ps) (take count vs)) where
+    pub first-refused : t ≡ false → r ≡ noHost 63 → r ≡ hostsAnswer count ps vs
+    unfolding hostsAnswer messageAnswer
+    first-refused f e = rw (le-leb count 32 h, sym gave, f) e
+
+    pub first-found : t ≡ true → (d : Decider) → d ≡ deciderOf (hostsOf (take count ps) (take count vs)) → r ≡ decidedBy d → r ≡ hostsAnswer count ps vs
+    unfolding hostsAnswer messageAnswer
+    first-found f d g e = rw (le-leb count 32 h, sym gave, f) (e ∙ ap decidedBy g ∙ sym (decider-answers (take count ps) (take count vs)))
+
+pub ruleset first-laws = (first-over, first-refused, first-found, not-true, not-false, needs)
+
+-- lists that are too long, or of unequal length, are no list of hosts
+long-list : (ps vs : List ℕ) → 32 < length ps → isHostList ps vs ≡ false
+unfolding isHostList
+long-list ps vs h = rw (le-leb 1 (length ps) (omega arith), lt-leb (length ps) 32 h)
+
+uneven-list : (ps vs : List ℕ) → (length vs ≡ length ps → ⊥) → isHostList ps vs ≡ false
+unfolding isHostList
+uneven-list ps vs d = rw (ne-eqb (length vs) (length ps) d, and-false)
+
+-- `answer_of_lists`: r is its answer, w and x what `is_whole` gave, n and m what `count` gave
+module _ (ps vs : List ℕ) (r : MessageAnswer) (w : Bool) (whole : w ≡ isWhole ps) where
+  pub lists-left : w ≡ false → r ≡ noHost 63 → r ≡ listsAnswer ps vs
+  unfolding listsAnswer
+  lists-left f e = rw (sym whole, f) e
+
+  module _ (t : w ≡ true) (x : Bool) (whole₂ : x ≡ isWhole vs) where
+    pub lists-left₂ : x ≡ false → r ≡ noHost 63 → r ≡ listsAnswer ps vs
+    unfolding listsAnswer
+    lists-left₂ f e = rw (sym whole, t, sym whole₂, f) e
+
+    module _ (u : x ≡ true) (n : ℕ) (counted : n ≡ length (numbers ps)) where
+      pub lists-over : 32 < n → r ≡ noHost 63 → r ≡ listsAnswer ps vs
+      unfolding listsAnswer messageAnswer
+      lists-over h e = rw (sym whole, t, sym whole₂, u, long-list (numbers ps) (numbers vs) (omega arith)) e
+
+      module _ (m : ℕ) (counted₂ : m ≡ length (numbers vs)) where
+        pub lists-uneven : (m ≡ n → ⊥) → r ≡ noHost 63 → r ≡ listsAnswer ps vs
+        unfolding listsAnswer messageAnswer
+        lists-uneven d e = rw (sym whole, t, sym whole₂, u, uneven-list (numbers ps) (numbers vs) (λ q. d (omega arith))) e
+
+        pub lists-hosts : n ≤ 32 → m ≡ n → (p v : List ℕ) → take (length (numbers ps)) p ≡ numbers ps → take (length (numbers vs)) v ≡ numbers vs → r ≡ hostsAnswer n p v → r ≡ listsAnswer ps vs
+        unfolding listsAnswer hostsAnswer
+        lists-hosts le even p v f g e =
+            let a : take n p ≡ numbers ps = rw counted f in
+            let b : take n v ≡ numbers vs = rw (sym even, counted₂) g in
+            rw (sym whole, t, sym whole₂, u) (e ∙ rw (le-leb n 32 le, a, b))
+
+pub ruleset lists-laws = (lists-left, lists-left₂, lists-over, lists-uneven, lists-hosts, not-true, not-false, needs)
+
+-- `next_host`: r is its answer
+module _ (l : MxLookup) (ps vs : List ℕ) (r : MessageAnswer) where
+  pub lookup-failed : l ≡ Failed → r ≡ noHost 30 → r ≡ nextHost l ps vs
+  unfolding nextHost
+  lookup-failed f e = rw f e
+
+  pub lookup-answered : l ≡ Answered → r ≡ listsAnswer ps vs → r ≡ nextHost l ps vs
+  unfolding nextHost
+  lookup-answered f e = rw f e
+
+pub ruleset next-laws = (lookup-failed, lookup-answered, needs)

@@ -1,0 +1,3 @@
+pub mod Hosts
+pub mod Order
+pub mod Search

@@ -1,0 +1,24 @@
+// The C boundary: each call takes numbers and byte slices of any contents and answers for all of them. `include/tweedstork.h` declares them.
+ghost use mathlib.Core.Path.{_≡_};
+ghost use Rattle.tweedstork.specs.Calls.{nextHostAnswer};
+use messages::MessageAnswer;
+use messages::MxLookup;
+
+// Which of a message's hosts decides?
+#[no_mangle]
+pub extern "C" fn tweedstork_next_host(
+    mx_lookup: u64,
+    preferences: &[u8],
+    verdicts: &[u8],
+) -> MessageAnswer
+    ensures { λ r. ⌜ r ≡ nextHostAnswer «mx_lookup» (now (preferences .entry)) (now (verdicts .entry)) ⌝ }
+{
+    match mx_lookup {
+        1 => messages::next_host(MxLookup::Answered, preferences, verdicts),
+        2 => messages::next_host(MxLookup::Failed, preferences, verdicts),
+        _ => MessageAnswer {
+            number: 67,
+            position: 0,
+        },
+    }
+}
