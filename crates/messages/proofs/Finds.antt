@@ -16,7 +16,7 @@ use Rattle.messages.specs.declared.Decider.the-variants.{Nobody}
 use Rattle.messages.specs.Hosts.{Host, isNextHost, hostsFrom, hostsOf, insert, inOrder, answerOf, decided}
 use Rattle.messages.specs.Order.{comesBefore, isOrdered}
 use Rattle.messages.specs.Search.{decider, before, withHost, deciderOf, decidedBy}
-use Rattle.messages.proofs.Bools.{and-left, and-right, and-both, all-more}
+use Rattle.lists.proofs.Bools.{and-left, and-right, and-intro, all-more}
 use Rattle.messages.proofs.Order.{before-facts, hosts-ordered, hosts-next, hosts-end}
 
 -- the first host of a list that is not a "next host"
@@ -50,7 +50,7 @@ first-higher h (x ∷ xs) g = go (first-higher h xs (and-right (atLeast (h .pref
 higher : (h x : Host) (xs : List Host) → isOrdered (x ∷ xs) ≡ true → h .preference ≤ x .preference → all (atLeast (h .preference)) (x ∷ xs) ≡ true
 unfolding all isOrdered
 higher h x xs o l =
-    and-both (atLeast (h .preference) x) (all (atLeast (h .preference)) xs) (le-leb (h .preference) (x .preference) l)
+    and-intro (atLeast (h .preference) x) (all (atLeast (h .preference)) xs) (le-leb (h .preference) (x .preference) l)
     (all-more (comesBefore x) (atLeast (h .preference)) (λ y b. let q : x .preference ≤ y .preference = before-facts x y b .0 in le-leb (h .preference) (y .preference) (omega arith))
     xs (and-left (all (comesBefore x) xs) (isOrdered xs) o))
 

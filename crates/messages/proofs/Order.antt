@@ -13,7 +13,7 @@ use Rattle.lists.specs.Bytes.{all}
 use Rattle.lists.proofs.Laws.{drop-next}
 use Rattle.messages.specs.Hosts.{Host, hostsFrom, hostsOf, insert, inOrder}
 use Rattle.messages.specs.Order.{comesBefore, isOrdered, howMany, hostAt}
-use Rattle.messages.proofs.Bools.{apart, and-left, and-right, and-both, and-swap, all-both}
+use Rattle.lists.proofs.Bools.{apart, and-left, and-right, and-intro, and-swap, all-both}
 
 -- which of two hosts comes first
 pub before-lower : (x y : Host) → x .preference < y .preference → comesBefore x y ≡ true
@@ -125,11 +125,11 @@ insert-ordered h (x ∷ xs) g o = go (insert-ordered h xs) (leb (h .preference) 
         all-both (comesBefore x) (after (h .position)) (comesBefore h)
         (λ y a b. before-given h y (let q : x .preference ≤ y .preference = before-facts x y a .0 in omega arith) (ltb-true (h .position) (y .position) b))
         xs (and-left (all (comesBefore x) xs) (isOrdered xs) o) (and-right (after (h .position) x) (all (after (h .position)) xs) g) in
-        and-both (comesBefore h x && all (comesBefore h) xs) (all (comesBefore x) xs && isOrdered xs) (and-both (comesBefore h x) (all (comesBefore h) xs) (before-given h x l now) rest) o
+        and-intro (comesBefore h x && all (comesBefore h) xs) (all (comesBefore x) xs && isOrdered xs) (and-intro (comesBefore h x) (all (comesBefore h) xs) (before-given h x l now) rest) o
     go ih false e =
         let l : x .preference < h .preference = leb-false (h .preference) (x .preference) e in
-        and-both (all (comesBefore x) (insert h xs)) (isOrdered (insert h xs))
-        (all-insert (comesBefore x) h xs ∙ and-both (comesBefore x h) (all (comesBefore x) xs) (before-lower x h l) (and-left (all (comesBefore x) xs) (isOrdered xs) o))
+        and-intro (all (comesBefore x) (insert h xs)) (isOrdered (insert h xs))
+        (all-insert (comesBefore x) h xs ∙ and-intro (comesBefore x h) (all (comesBefore x) xs) (before-lower x h l) (and-left (all (comesBefore x) xs) (isOrdered xs) o))
         (ih (and-right (after (h .position) x) (all (after (h .position)) xs) g) (and-right (all (comesBefore x) xs) (isOrdered xs) o))
 
 pub hosts-ordered : (k : ℕ) (ps vs : List ℕ) → isOrdered (inOrder (hostsFrom k ps vs)) ≡ true

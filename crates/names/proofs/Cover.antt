@@ -11,6 +11,7 @@ use borrow.Author.Tests.{not-true, not-false, eq-eqb, ne-eqb, lt-ltb, le-ltb, lt
 use Rattle.lists.specs.Bytes.{within, all, lowerOf}
 use Rattle.lists.specs.Equal.{agree, sameLetter, sameText}
 use Rattle.lists.specs.Split.{indexOf, split, toFirst}
+use Rattle.lists.proofs.Bools.{and-left, and-right, and-assoc}
 use Rattle.lists.proofs.Laws.{take-rest, bounds, tests}
 use Rattle.lists.proofs.Split.{split-first, indexOf-le}
 use Rattle.names.specs.Name.{labelByte, isLabel, isName, isStarred, isWildcard, afterFirst, matchesName}
@@ -106,37 +107,34 @@ name-lowered s = rw (length-map s lowerOf, split-lowered s, labels-lowered (spli
 pub name-same : (a b : List ℕ) → sameText a b ≡ true → isName a ≡ isName b
 name-same a b h = sym (name-lowered a) ∙ ap isName (same-lowered a b h) ∙ name-lowered b
 
--- the test of a name's labels, taken apart at its first dot
-pub and-both : (x y : Bool) → (x && y) ≡ true → (x ≡ true) × (y ≡ true)
-and-both true true h = (refl, refl)
-and-both true false h = (refl, h)
-and-both false y h = absurd (let z : _≡_ {A = ℕ} 0 1 = cc in omega arith)
-
 empty-piece : all isLabel (split 46 []) ≡ false
 unfolding all split isLabel
 empty-piece = refl
+
+-- a name has at most 253 bytes, and its pieces between dots are labels
+pub name-short : (n : List ℕ) → isName n ≡ true → length n ≤ 253
+unfolding isName
+name-short n h = leb-true (length n) 253 (and-right (leb 1 (length n)) (leb (length n) 253) (and-left (within 1 253 (length n)) (all isLabel (split 46 n)) h))
+
+pub name-labels : (n : List ℕ) → isName n ≡ true → all isLabel (split 46 n) ≡ true
+unfolding isName
+name-labels n h = and-right (within 1 253 (length n)) (all isLabel (split 46 n)) h
 
 -- what follows the first dot of a name is a name
 pub name-after : (n : List ℕ) → isName n ≡ true → indexOf 46 n < length n → isName (afterFirst n) ≡ true
 unfolding isName all
 name-after n h k = go (afterFirst n) refl
   where
-    sizes : within 1 253 (length n) ≡ true
-    sizes = and-both (within 1 253 (length n)) (all isLabel (split 46 n)) h .0
-
     first : split 46 n ≡ take (indexOf 46 n) n ∷ split 46 (afterFirst n)
     first = let e : suc (indexOf 46 n) ≡ indexOf 46 n + 1 = omega arith in rw (← e) (split-first 46 n k)
 
     rest : all isLabel (split 46 (afterFirst n)) ≡ true
-    rest = and-both (isLabel (take (indexOf 46 n) n)) (all isLabel (split 46 (afterFirst n))) (rw first at (and-both (within 1 253 (length n)) (all isLabel (split 46 n)) h .1)) .1
-
-    few : length n ≤ 253
-    few = leb-true (length n) 253 (and-both (leb 1 (length n)) (leb (length n) 253) sizes .1)
+    rest = and-right (isLabel (take (indexOf 46 n) n)) (all isLabel (split 46 (afterFirst n))) (rw first at (name-labels n h))
 
     go : (m : List ℕ) → afterFirst n ≡ m → (within 1 253 (length m) && all isLabel (split 46 m)) ≡ true
     go [] e = absurd (let x : all isLabel (split 46 []) ≡ true = rw e at rest in let z : _≡_ {A = ℕ} 0 1 = cc (x, empty-piece) in omega arith)
     go (x ∷ m) e =
-        let l : length (x ∷ m) ≤ 253 = omega (arith, few, ap length e, length-drop (indexOf 46 n + 1) n) in
+        let l : length (x ∷ m) ≤ 253 = omega (arith, name-short n h, ap length e, length-drop (indexOf 46 n + 1) n) in
         let r : all isLabel (split 46 (x ∷ m)) ≡ true = rw e at rest in
         rw (le-leb 1 (length (x ∷ m)) (omega arith), le-leb (length (x ∷ m)) 253 l) r
 
@@ -167,10 +165,6 @@ after-same p n h = go (ltb (indexOf 46 n) (length n)) refl
     go false e =
         let l : length n ≤ indexOf 46 n + 1 = omega (arith, ltb-false (indexOf 46 n) (length n) e) in
         rw (drop-of-length-le n l) (sym (same-nothing (drop 2 p)))
-
-and-assoc : (x y z : Bool) → ((x && y) && z) ≡ (x && (y && z))
-and-assoc true y z = refl
-and-assoc false y z = refl
 
 -- of a name n, `covers` says whether p matches n
 pub matches-covers : (p n : List ℕ) → isName n ≡ true → coversName p n ≡ matchesName p n

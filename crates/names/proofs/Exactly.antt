@@ -14,10 +14,11 @@ use Rattle.lists.specs.Bytes.{within, all}
 use Rattle.lists.specs.Equal.{sameText}
 use Rattle.lists.specs.Split.{indexOf, split, lacks}
 use Rattle.lists.specs.Text.{text}
+use Rattle.lists.proofs.Bools.{and-left, and-right}
 use Rattle.lists.proofs.Laws.{drop-next}
 use Rattle.lists.proofs.Split.{split-first, split-after, index-after, index-there}
 use Rattle.names.specs.Name.{labelByte, isLabel, isName, isStarred, isWildcard, afterFirst, matchesName}
-use Rattle.names.proofs.Cover.{and-both, name-same, nothing-no-name, same-nothing}
+use Rattle.names.proofs.Cover.{name-same, name-short, name-labels, nothing-no-name, same-nothing}
 use Rattle.names.proofs.Match.{starred-no-name}
 
 -- a name begins with no star
@@ -49,17 +50,6 @@ pub record OneLabelBefore (N n : List ℕ) : Type 0 where
 abbrev pub wildcard : List ℕ → List ℕ
 wildcard N = text "*." ++ N
 
-or-right : (x y : Bool) → x ≡ false → (x || y) ≡ true → y ≡ true
-or-right x y e h = rw e at h
-
-short : (n : List ℕ) → isName n ≡ true → length n ≤ 253
-unfolding isName
-short n h = leb-true (length n) 253 (and-both (leb 1 (length n)) (leb (length n) 253) (and-both (within 1 253 (length n)) (all isLabel (split 46 n)) h .0) .1)
-
-labels : (n : List ℕ) → isName n ≡ true → all isLabel (split 46 n) ≡ true
-unfolding isName
-labels n h = and-both (within 1 253 (length n)) (all isLabel (split 46 n)) h .1
-
 dot-no-byte : labelByte 46 ≡ false
 unfolding labelByte
 dot-no-byte = refl
@@ -68,15 +58,15 @@ dot-no-byte = refl
 no-dots : (l : List ℕ) → all labelByte l ≡ true → lacks 46 l ≡ true
 unfolding all
 no-dots [] h = refl
-no-dots (x ∷ l) h = go (no-dots l (and-both (labelByte x) (all labelByte l) h .1)) (eqb x 46) refl
+no-dots (x ∷ l) h = go (no-dots l (and-right (labelByte x) (all labelByte l) h)) (eqb x 46) refl
   where
     go : lacks 46 l ≡ true → (t : Bool) → eqb x 46 ≡ t → (not t && lacks 46 l) ≡ true
-    go ih true e = sym dot-no-byte ∙ ap labelByte (sym (eqb-true x 46 e)) ∙ and-both (labelByte x) (all labelByte l) h .0
+    go ih true e = sym dot-no-byte ∙ ap labelByte (sym (eqb-true x 46 e)) ∙ and-left (labelByte x) (all labelByte l) h
     go ih false e = ih
 
 label-bytes : (l : List ℕ) → isLabel l ≡ true → all labelByte l ≡ true
 unfolding isLabel
-label-bytes l h = and-both (within 1 63 (length l) && not (eqb (getD l 0 0) 45) && not (eqb (getD l (length l - 1) 0) 45)) (all labelByte l) h .1
+label-bytes l h = and-right (within 1 63 (length l) && not (eqb (getD l 0 0) 45) && not (eqb (getD l (length l - 1) 0) 45)) (all labelByte l) h
 
 -- a label, a dot and a name are a name, where they have 253 bytes at most, and the name follows the first dot
 module _ (l m : List ℕ) (is-label : isLabel l ≡ true) where
@@ -88,7 +78,7 @@ module _ (l m : List ℕ) (is-label : isLabel l ≡ true) where
 
   name-joined : isName m ≡ true → length (l ++ (46 ∷ m)) ≤ 253 → isName (l ++ (46 ∷ m)) ≡ true
   unfolding isName all
-  name-joined h k = rw (le-leb 1 (length (l ++ (46 ∷ m))) (omega (arith, length-append l (46 ∷ m))), le-leb (length (l ++ (46 ∷ m))) 253 k, split-after 46 l m no-dot, is-label) (labels m h)
+  name-joined h k = rw (le-leb 1 (length (l ++ (46 ∷ m))) (omega (arith, length-append l (46 ∷ m))), le-leb (length (l ++ (46 ∷ m))) 253 k, split-after 46 l m no-dot, is-label) (name-labels m h)
 
 put-together : {N n : List ℕ} → isName N ≡ true → OneLabelBefore N n → length n ≤ 253 → (isName n && sameText N (afterFirst n)) ≡ true
 put-together {N} {n} named m k =
@@ -123,11 +113,11 @@ module _ (N n : List ℕ) (named : isName N ≡ true) where
   taken-apart h e =
       let d : indexOf 46 n < length n = has-dot e in
       let f : split 46 n ≡ take (indexOf 46 n) n ∷ split 46 (drop (suc (indexOf 46 n)) n) = split-first 46 n d in
-      let l : all isLabel (split 46 n) ≡ true = labels n h in
+      let l : all isLabel (split 46 n) ≡ true = name-labels n h in
       record {
         label = take (indexOf 46 n) n;
         rest = afterFirst n;
-        is-label = and-both (isLabel (take (indexOf 46 n) n)) (all isLabel (split 46 (drop (suc (indexOf 46 n)) n))) (rw f at l) .0;
+        is-label = and-left (isLabel (take (indexOf 46 n) n)) (all isLabel (split 46 (drop (suc (indexOf 46 n)) n))) (rw f at l);
         made = sym (take-append-drop (indexOf 46 n) n) ∙ ap (λ (r : List ℕ). take (indexOf 46 n) n ++ r) (drop-next n (indexOf 46 n) d ∙ ap (λ (b : ℕ). b ∷ afterFirst n) (index-there 46 n d));
         same = e;
       }
@@ -138,8 +128,9 @@ module _ (N n : List ℕ) (named : isName N ≡ true) where
     where
       gives : matchesName (wildcard N) n ≡ true → OneLabelBefore N n × (length n ≤ 253)
       gives h =
-          let b = and-both (isName n) (sameText N (afterFirst n)) (sym wildcard-says ∙ h) in
-          (taken-apart (b .0) (b .1), short n (b .0))
+          let both : (isName n && sameText N (afterFirst n)) ≡ true = sym wildcard-says ∙ h in
+          let named-n : isName n ≡ true = and-left (isName n) (sameText N (afterFirst n)) both in
+          (taken-apart named-n (and-right (isName n) (sameText N (afterFirst n)) both), name-short n named-n)
 
       takes : OneLabelBefore N n → length n ≤ 253 → matchesName (wildcard N) n ≡ true
       takes m l = wildcard-says ∙ put-together named m l

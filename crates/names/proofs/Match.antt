@@ -11,10 +11,11 @@ use borrow.Author.Tests.{not-true, not-false, lt-ltb, le-ltb, leb-true, eqb-true
 use Rattle.lists.specs.Bytes.{within, all}
 use Rattle.lists.specs.Equal.{sameText}
 use Rattle.lists.specs.Split.{indexOf, split, toFirst}
+use Rattle.lists.proofs.Bools.{and-left, and-right}
 use Rattle.lists.proofs.Laws.{take-rest}
 use Rattle.names.specs.Name.{labelByte, isLabel, isName, isStarred, isWildcard, isPattern, afterFirst, matchesName}
 use Rattle.names.specs.Scan.{coversName}
-use Rattle.names.proofs.Cover.{and-both, matches-covers}
+use Rattle.names.proofs.Cover.{matches-covers}
 
 -- `matches`: r is what `is_name` gave
 module _ (p n : List ℕ) (r : Bool) (named : r ≡ isName n) where
@@ -30,7 +31,7 @@ pub ruleset matches-laws = (no-name, name-covered, not-true, not-false, needs)
 -- what begins with `*.` has two bytes at least
 pub starred-long : (p : List ℕ) (r : Bool) → r ≡ isStarred p → r ≡ true → 2 ≤ length p
 unfolding isStarred
-starred-long p r gave t = leb-true 2 (length p) (and-both (leb 2 (length p)) (eqb (getD p 0 0) 42) (and-both (leb 2 (length p) && eqb (getD p 0 0) 42) (eqb (getD p 1 0) 46) (sym gave ∙ t) .0) .0)
+starred-long p r gave t = leb-true 2 (length p) (and-left (leb 2 (length p)) (eqb (getD p 0 0) 42) (and-left (leb 2 (length p) && eqb (getD p 0 0) 42) (eqb (getD p 1 0) 46) (sym gave ∙ t)))
 
 -- `covers`: q, r, v are what its calls gave
 module _ (p n : List ℕ) (q : Bool) (whole : q ≡ sameText p n) where
@@ -70,7 +71,7 @@ star-no-name (x ∷ s) h = go (split 46 s)
 
 pub starred-no-name : (p : List ℕ) → isStarred p ≡ true → isName p ≡ false
 unfolding isStarred
-starred-no-name p h = star-no-name p (eqb-true (getD p 0 0) 42 (and-both (leb 2 (length p)) (eqb (getD p 0 0) 42) (and-both (leb 2 (length p) && eqb (getD p 0 0) 42) (eqb (getD p 1 0) 46) h .0) .1))
+starred-no-name p h = star-no-name p (eqb-true (getD p 0 0) 42 (and-right (leb 2 (length p)) (eqb (getD p 0 0) 42) (and-left (leb 2 (length p) && eqb (getD p 0 0) 42) (eqb (getD p 1 0) 46) h)))
 
 -- `is_pattern`: r is what `is_starred` gave
 module _ (p : List ℕ) (r : Bool) (gave : r ≡ isStarred p) (v : Bool) where

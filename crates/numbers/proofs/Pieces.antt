@@ -11,6 +11,7 @@ use lib.Seq.{drop-drop, take-all, take-nil, length-take-le, take-append-seam, dr
 use borrow.Author.Needs.{needs}
 use borrow.Author.Tests.{le-leb, lt-leb, leb-true, leb-false, eqb-true}
 use Rattle.lists.specs.Bytes.{all}
+use Rattle.lists.proofs.Bools.{and-right}
 use Rattle.lists.proofs.Laws.{drop-next}
 use Rattle.numbers.specs.Numbers.{numbers, isWhole, sum, atMost}
 use Rattle.numbers.specs.Pieces.{cut, sumsTo, pieces, upTo, endOf}
@@ -122,10 +123,6 @@ cut-joined (x ∷ s) [] h = absurd (omega arith)
 cut-joined s (n ∷ ns) h =
     let k : sum ns ≡ length (drop n s) = omega (arith, length-drop n s) in
     rw (cut-joined (drop n s) ns k) (take-append-drop n s)
-
-and-right : (x y : Bool) → (x && y) ≡ true → y ≡ true
-and-right true y h = h
-and-right false y h = cc
 
 -- what `sums_to` says of the sum
 pub sums-true : (l : List ℕ) (n : ℕ) → sumsTo l n ≡ true → sum (numbers l) ≡ n
