@@ -1,0 +1,154 @@
+-- The ways out of the functions that answer for a text: `is_id`, `has_form`, `with_id` and `grade`. Assumes nothing.
+use Prim.Native.Nat.{ℕ, _+_, _-_, _<_, _≤_}
+use mathlib.Core.Path.{_≡_, refl, sym, ap, subst, _∙_}
+use mathlib.Core.Bool.{Bool, true, false, cond, _&&_, and-false, and-true}
+use mathlib.Core.List.{List, []}
+use mathlib.Core.Option.{Option, none, some}
+use native.Mathlib.Omega.{arith}
+use lib.ListN.{length, getD, take, drop, length-drop}
+use lib.Seq.{length-take-le}
+use borrow.Author.Needs.{needs}
+use borrow.Author.Tests.{not-true, not-false}
+use Rattle.lists.specs.Bytes.{within, all}
+use Rattle.lists.specs.Equal.{sameBytes}
+use Rattle.lists.specs.Span.{begins}
+use Rattle.lists.specs.Text.{text}
+use Rattle.lists.proofs.Laws.{tests}
+use Rattle.lists.proofs.All.{all-next, all-fail, all-end}
+use Rattle.fields.specs.Name.{letterOrDigit}
+use Rattle.txt.specs.declared.TxtAnswer.{TxtAnswer}
+use Rattle.txt.specs.declared.Step.{Step}
+use Rattle.txt.specs.Paper.{isId}
+use Rattle.txt.specs.Grammar.{version, nameOf, afterName, valueOf, oneMore, fieldsOf, firstNamed, withId, idAmong, idField}
+use Rattle.txt.specs.Txt.{refusal, graded}
+use Rattle.txt.specs.Steps.{StepIs, FieldIs, hasForm, idAnswer}
+
+-- `is_id`
+module _ (v : List ℕ) (i : ℕ) (inv : all letterOrDigit v ≡ all letterOrDigit (drop i v)) where
+  pub id-bad : (r : Bool) → i < length v → r ≡ letterOrDigit (getD v i 0) → r ≡ false → false ≡ isId v
+  unfolding isId
+  id-bad r h e t = rw (all-fail letterOrDigit v i inv h r e t) (sym (and-false (within 1 32 (length v))))
+
+  pub id-good : length v ≤ i → 1 ≤ length v → length v ≤ 32 → true ≡ isId v
+  unfolding isId
+  id-good h small large = rw (all-end letterOrDigit v i inv h) (search tests)
+
+pub ruleset id-laws = (id-bad, id-good, all-next, not-true, not-false, needs)
+
+-- one field more changes neither the form, nor the field of the id where it is not named `id`
+form-more : (f : List ℕ) (o : Option (List (List ℕ))) → hasForm (oneMore f o) ≡ hasForm o
+unfolding hasForm oneMore
+form-more f none = refl
+form-more f (some fs) = refl
+
+among-none : idAmong (some []) ≡ none
+unfolding idAmong firstNamed withId
+among-none = refl
+
+among-other : (f : List ℕ) (o : Option (List (List ℕ))) → sameBytes (nameOf f) (text "id") ≡ false → idAmong (oneMore f o) ≡ idAmong o
+unfolding idAmong oneMore firstNamed
+among-other f none h = refl
+among-other f (some fs) h = rw h
+
+among-id : (f : List ℕ) (o : Option (List (List ℕ))) → sameBytes (nameOf f) (text "id") ≡ true → idAmong (oneMore f o) ≡ cond (isId (valueOf f) && hasForm o) (some f) none
+unfolding idAmong oneMore firstNamed withId hasForm
+among-id f none h = rw (and-false (isId (valueOf f)))
+among-id f (some fs) h = rw (h, and-true (isId (valueOf f)))
+
+graded-cond : (t f : List ℕ) (b : Bool) → graded t (cond b (some f) none) ≡ cond b (record { number = 6; «id_start» = length t - length (afterName f); «id_length» = length (valueOf f) }) (refusal 42)
+unfolding graded
+graded-cond t f true = refl
+graded-cond t f false = refl
+
+-- what a step says
+module _ (t : List ℕ) (at : ℕ) (r : Step) (is : StepIs t at r) where
+  fields-end : r ≡ Step.End → fieldsOf (drop at t) ≡ some []
+  unfolding StepIs
+  fields-end q = subst (λ (x : Step). StepIs t at x) q is
+
+  fields-broken : r ≡ Step.Broken → fieldsOf (drop at t) ≡ none
+  unfolding StepIs
+  fields-broken q = subst (λ (x : Step). StepIs t at x) q is
+
+  module _ (a e v : ℕ) (q : r ≡ Step.Field a e v) where
+    facts : FieldIs t at a e v
+    unfolding StepIs
+    facts = subst (λ (x : Step). StepIs t at x) q is
+
+    pub field-order : a ≤ e
+    field-order = facts .named
+
+    pub field-equals : e ≤ length t
+    field-equals = omega (arith, facts .valued, facts .inside)
+
+    pub field-value : e + 1 ≤ v
+    field-value = omega (arith, facts .valued)
+
+    pub field-inside : v ≤ length t
+    field-inside = facts .inside
+
+    pub field-less : length t - v < length t - at
+    field-less = omega (arith, facts .later, facts .named, facts .valued, facts .inside)
+
+  -- `has_form`
+  module _ (from : ℕ) (inv : hasForm (fieldsOf (drop from t)) ≡ hasForm (fieldsOf (drop at t))) where
+    pub form-end : r ≡ Step.End → true ≡ hasForm (fieldsOf (drop from t))
+    unfolding hasForm
+    form-end q = cc (fields-end q)
+
+    pub form-broken : r ≡ Step.Broken → false ≡ hasForm (fieldsOf (drop from t))
+    unfolding hasForm
+    form-broken q = cc (fields-broken q)
+
+    pub form-next : (a e v : ℕ) → r ≡ Step.Field a e v → hasForm (fieldsOf (drop from t)) ≡ hasForm (fieldsOf (drop v t))
+    form-next a e v q = cc (facts a e v q .fields, form-more (drop a t) (fieldsOf (drop v t)))
+
+  -- `grade`
+  module _ (inv : idField t ≡ idAmong (fieldsOf (drop at t))) where
+    pub grade-end : r ≡ Step.End → (x : TxtAnswer) → x ≡ refusal 42 → x ≡ graded t (idField t)
+    unfolding graded
+    grade-end q x e = let i : idField t ≡ none = inv ∙ (ap idAmong (fields-end q) ∙ among-none) in e ∙ rw i
+
+    pub grade-broken : r ≡ Step.Broken → (x : TxtAnswer) → x ≡ refusal 42 → x ≡ graded t (idField t)
+    unfolding graded idAmong
+    grade-broken q x e = let i : idField t ≡ none = inv ∙ ap idAmong (fields-broken q) in e ∙ rw i
+
+    module _ (a e v : ℕ) (q : r ≡ Step.Field a e v) (named : Bool) (gave : named ≡ sameBytes (take (e - a) (drop a t)) (text "id")) where
+      name-gave : named ≡ sameBytes (nameOf (drop a t)) (text "id")
+      name-gave = gave ∙ ap (λ (n : List ℕ). sameBytes n (text "id")) (sym (facts a e v q .name))
+
+      pub grade-next : named ≡ false → idField t ≡ idAmong (fieldsOf (drop v t))
+      grade-next f = inv ∙ (ap idAmong (facts a e v q .fields) ∙ among-other (drop a t) (fieldsOf (drop v t)) (sym name-gave ∙ f))
+
+      pub grade-id : named ≡ true → (x : TxtAnswer) → x ≡ idAnswer t (e + 1) v → x ≡ graded t (idField t)
+      unfolding idAnswer
+      grade-id y x z =
+          let i : v ≤ length t = facts a e v q .inside in
+          let k : e + 1 < v = facts a e v q .valued in
+          let s : length t - length (afterName (drop a t)) ≡ e + 1 = rw (facts a e v q .rest, length-drop (e + 1) t) (omega arith) in
+          let l : length (valueOf (drop a t)) ≡ v - (e + 1) = rw (facts a e v q .value) (length-take-le (v - (e + 1)) (drop (e + 1) t) (omega (arith, length-drop (e + 1) t))) in
+          let f : idField t ≡ cond (isId (valueOf (drop a t)) && hasForm (fieldsOf (drop v t))) (some (drop a t)) none = inv ∙ (ap idAmong (facts a e v q .fields) ∙ among-id (drop a t) (fieldsOf (drop v t)) (sym name-gave ∙ y)) in
+          z ∙ sym (ap (graded t) f ∙ (graded-cond t (drop a t) (isId (valueOf (drop a t)) && hasForm (fieldsOf (drop v t))) ∙ rw (s, l, facts a e v q .value)))
+
+pub grade-start : (t : List ℕ) → begins version t ≡ true → idField t ≡ idAmong (fieldsOf (drop 7 t))
+unfolding idField
+grade-start t b = rw b
+
+pub ruleset form-laws = (form-end, form-broken, form-next, field-less, needs)
+
+-- `with_id`
+module _ (t : List ℕ) (a v : ℕ) (good : Bool) (gave : good ≡ isId (take (v - a) (drop a t))) where
+  pub with-bad : good ≡ false → (x : TxtAnswer) → x ≡ refusal 42 → x ≡ idAnswer t a v
+  unfolding idAnswer
+  with-bad f x e = cc
+
+  module _ (y : good ≡ true) (rest : Bool) (form : rest ≡ hasForm (fieldsOf (drop v t))) where
+    pub with-broken : rest ≡ false → (x : TxtAnswer) → x ≡ refusal 42 → x ≡ idAnswer t a v
+    unfolding idAnswer
+    with-broken f x e = cc
+
+    pub with-good : rest ≡ true → _≡_ {A = TxtAnswer} (record { number = 6; «id_start» = a; «id_length» = v - a }) (idAnswer t a v)
+    unfolding idAnswer
+    with-good z = cc
+
+pub ruleset with-laws = (with-bad, with-broken, with-good, not-true, not-false, needs)

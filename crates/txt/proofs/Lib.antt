@@ -1,0 +1,11 @@
+pub mod General
+pub mod Strings
+pub mod Writing
+pub mod Candidates
+pub mod Forms
+pub mod Answers
+pub mod Reading
+pub mod Places
+pub mod Paper
+pub mod Sanity
+mod Worked

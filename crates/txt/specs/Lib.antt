@@ -1,0 +1,5 @@
+pub mod Paper
+pub mod Rdata
+pub mod Grammar
+pub mod Txt
+pub mod Steps

@@ -1,0 +1,64 @@
+-- `vectors::run_lines` meets its contract. Assumes nothing.
+use Prim.Native.Nat.{_-_}
+use mathlib.Core.Path.{_≡_}
+use lib.ListN.{length}
+use borrow.Author.Needs.{needs}
+use Rattle.vectors.proofs.run_lines.Statement.{statement}
+use Rattle.vectors.proofs.run_lines.Tie as tie
+
+abbrev Inv-loop : tie.InvT-loop
+Inv-loop text room₀ c₀ at₀ room c at = length room ≡ length room₀
+
+abbrev μ-loop : tie.MeasureT-loop
+μ-loop text room₀ c₀ at₀ room c at = length text - at
+
+loop-holds : tie.Need-loop-holds Inv-loop μ-loop
+loop-holds c = search needs
+
+find-requires : tie.Need-find-requires Inv-loop μ-loop
+find-requires c κs = search needs
+
+sub-with-line : tie.Need-sub-with-line Inv-loop μ-loop
+sub-with-line c = search needs
+
+part-with-line-start : tie.Need-part-with-line-start Inv-loop μ-loop
+part-with-line-start c = search needs
+
+part-with-line-end : tie.Need-part-with-line-end Inv-loop μ-loop
+part-with-line-end c = search needs
+
+with-line-requires : tie.Need-with-line-requires Inv-loop μ-loop
+with-line-requires c κs = search needs
+
+add-at : tie.Need-add-at Inv-loop μ-loop
+add-at c = search needs
+
+loop-less : tie.Need-loop-less Inv-loop μ-loop
+loop-less c = search needs
+
+loop-again : tie.Need-loop-again Inv-loop μ-loop
+loop-again c = search needs
+
+same-length : tie.Need-same-length Inv-loop μ-loop
+same-length c = search needs
+
+returns : tie.Need-returns Inv-loop μ-loop
+returns c = search needs
+
+pub run-lines-spec : {M : Type 1} → statement M
+run-lines-spec =
+    tie.close
+    (tie.spec
+    Inv-loop
+    μ-loop
+    loop-holds
+    find-requires
+    sub-with-line
+    part-with-line-start
+    part-with-line-end
+    with-line-requires
+    add-at
+    loop-less
+    loop-again
+    same-length
+    returns)

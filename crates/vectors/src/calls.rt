@@ -1,0 +1,92 @@
+// The calls of the library that a case can make. A new call is a function here, named in `run`: it asks that the line's
+// fields be of the right kinds (w a word, n a number, b bytes, = the sign `=>`), makes the call and compares the answers.
+use crate::line::Fields;
+use crate::line::bytes_at;
+use crate::line::has_kinds;
+use crate::line::name;
+use crate::line::number_at;
+use libc::STDOUT_FILENO;
+
+// What a case came to. Where it differs, a line that says so has been written.
+pub enum Outcome {
+    Passed,
+    Differs,
+    Unreadable,
+}
+
+// The numbers of an answer, in the order of its struct, and zeros after them.
+pub struct Answer {
+    pub count: usize,
+    pub numbers: [u64; 4],
+}
+
+// Runs the case of a line: field 0 names the call, field 1 the case, then come the call's arguments, `=>` and its answer.
+pub fn run(s: &[u8], f: Fields) -> Outcome {
+    let call = bytes_at(s, f, 0);
+    if check::same(call, b"next_host") {
+        return next_host(s, f);
+    }
+    Outcome::Unreadable
+}
+
+fn next_host(s: &[u8], f: Fields) -> Outcome {
+    if !has_kinds(f, b"wwnbb=nn") {
+        return Outcome::Unreadable;
+    }
+    let r = tweedstork::tweedstork_next_host(number_at(f, 2), bytes_at(s, f, 3), bytes_at(s, f, 4));
+    compared(
+        name(s, f),
+        two(number_at(f, 6), number_at(f, 7)),
+        two(r.number, r.position),
+    )
+}
+
+fn two(a: u64, b: u64) -> Answer {
+    Answer {
+        count: 2,
+        numbers: [a, b, 0, 0],
+    }
+}
+
+// Compares a case's answers, and says where they differ.
+fn compared(case: &[u8], expected: Answer, got: Answer) -> Outcome {
+    if is_same(expected, got) {
+        return Outcome::Passed;
+    }
+    say(case);
+    say(b": expected ");
+    say_answer(expected);
+    say(b", got ");
+    say_answer(got);
+    say(b"\n");
+    Outcome::Differs
+}
+
+fn is_same(x: Answer, y: Answer) -> bool {
+    let a = x.numbers;
+    let b = y.numbers;
+    a[0] == b[0] && a[1] == b[1] && a[2] == b[2] && a[3] == b[3]
+}
+
+fn say_answer(a: Answer) {
+    let n = a.numbers;
+    say_number(n[0]);
+    say_more(1 < a.count, n[1]);
+    say_more(2 < a.count, n[2]);
+    say_more(3 < a.count, n[3]);
+}
+
+fn say_more(is_there: bool, n: u64) {
+    if is_there {
+        say(b" ");
+        say_number(n);
+    }
+}
+
+pub fn say_number(n: u64) {
+    io::print_decimal(STDOUT_FILENO, n);
+}
+
+pub fn say(text: &[u8]) {
+    io::write_all(STDOUT_FILENO, text);
+}

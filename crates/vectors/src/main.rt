@@ -1,0 +1,104 @@
+// Runs the cases of the files that `main` names: a case is a line with a call of the library and the answer that it must
+// give. Writes a line for each case that fails, and last how many passed and how many failed.
+mod calls;
+mod line;
+
+use calls::Outcome;
+use calls::say;
+use calls::say_number;
+use std::num::wrapping_add_u64;
+
+// The most bytes that a file of cases has, and the most that the fields of a line have once they are decoded.
+const FILE_ROOM: usize = 131072;
+
+const LINE_ROOM: usize = 262144;
+
+pub struct Count {
+    pub passed: u64,
+    pub failed: u64,
+}
+
+fn main() {
+    let c = Count {
+        passed: 0,
+        failed: 0,
+    };
+    let c = run_file(b"next_host.cases", c);
+    say_number(c.passed);
+    say(b" passed, ");
+    say_number(c.failed);
+    say(b" failed\n");
+}
+
+// The count after the cases of a file. A file that can't be opened and read to its end counts as a case that failed.
+fn run_file(path: &[u8], c: Count) -> Count {
+    let fd = os::open_read(path);
+    if fd < 0 {
+        return failed(path, b": cannot be opened\n", c);
+    }
+    let mut text = [0u8; FILE_ROOM];
+    let n = io::read_full(fd, &mut text);
+    let mut more = [0u8; 1];
+    let rest = libc::read(fd, &mut more);
+    libc::close(fd);
+    if rest != 0 {
+        return failed(path, b": cannot be read to its end\n", c);
+    }
+    let mut room = [0u8; LINE_ROOM];
+    run_lines(&text[..n], &mut room, c)
+}
+
+fn run_lines(text: &[u8], room: &mut [u8], before: Count) -> Count {
+    let mut c = before;
+    let mut at = 0;
+    while at < text.len() {
+        let end = bytes::scan::find(text, at, text.len(), b'\n');
+        c = with_line(c, &text[at..end], room);
+        at = end + 1;
+    }
+    c
+}
+
+// The count after a line. An empty line and one that begins with `#` are no case.
+fn with_line(c: Count, line: &[u8], room: &mut [u8]) -> Count {
+    if line.len() == 0 {
+        return c;
+    }
+    if line[0] == b'#' {
+        return c;
+    }
+    run_case(c, line, room)
+}
+
+fn run_case(c: Count, line: &[u8], room: &mut [u8]) -> Count {
+    let f = line::read(line, room);
+    match calls::run(room, f) {
+        Outcome::Passed => with_passed(c),
+        Outcome::Differs => with_failed(c),
+        Outcome::Unreadable => unreadable(line::name(room, f), c),
+    }
+}
+
+fn unreadable(case: &[u8], c: Count) -> Count {
+    if case.len() == 0 {
+        return failed(b"a case without a name", b": cannot be read\n", c);
+    }
+    failed(case, b": cannot be read\n", c)
+}
+
+// Says why a case or a file failed, and counts it.
+fn failed(what: &[u8], why: &[u8], c: Count) -> Count {
+    say(what);
+    say(why);
+    with_failed(c)
+}
+
+fn with_passed(mut c: Count) -> Count {
+    c.passed = wrapping_add_u64(c.passed, 1);
+    c
+}
+
+fn with_failed(mut c: Count) -> Count {
+    c.failed = wrapping_add_u64(c.failed, 1);
+    c
+}
