@@ -1,8 +1,20 @@
 // The C boundary: each call takes numbers and byte slices of any contents and answers for all of them. `include/tweedstork.h` declares them.
 ghost use mathlib.Core.Path.{_≡_};
+ghost use lib.ListN.{length};
+ghost use Rattle.txt.specs.Txt.{readTxt, wroteTxt};
 ghost use Rattle.tweedstork.specs.Calls.{nextHostAnswer};
 use messages::MessageAnswer;
 use messages::MxLookup;
+use txt::TxtAnswer;
+
+// Which MTA-STS record do these TXT RDATAs hold, and what is its id?
+#[no_mangle]
+pub extern "C" fn tweedstork_read_txt(rdatas: &[u8], lengths: &[u8], output: &mut [u8]) -> TxtAnswer
+    ensures { λ r. ⌜ r ≡ readTxt (now (rdatas .entry)) (now (lengths .entry)) (length (now (output .entry))) ⌝ }
+    ensures { λ _. ⌜ now (output .exit) ≡ wroteTxt (now (rdatas .entry)) (now (lengths .entry)) (now (output .entry)) ⌝ }
+{
+    txt::read_txt(rdatas, lengths, output)
+}
 
 // Which of a message's hosts decides?
 #[no_mangle]

@@ -6,6 +6,7 @@ use crate::line::has_kinds;
 use crate::line::name;
 use crate::line::number_at;
 use libc::STDOUT_FILENO;
+use txt::TxtAnswer;
 
 // What a case came to. Where it differs, a line that says so has been written.
 pub enum Outcome {
@@ -23,10 +24,57 @@ pub struct Answer {
 // Runs the case of a line: field 0 names the call, field 1 the case, then come the call's arguments, `=>` and its answer.
 pub fn run(s: &[u8], f: Fields) -> Outcome {
     let call = bytes_at(s, f, 0);
+    if check::same(call, b"read_txt") {
+        return read_txt(s, f);
+    }
     if check::same(call, b"next_host") {
         return next_host(s, f);
     }
     Outcome::Unreadable
+}
+
+// The most bytes that a case lends as output.
+const OUTPUT_ROOM: usize = 4096;
+
+fn read_txt(s: &[u8], f: Fields) -> Outcome {
+    if !has_kinds(f, b"wwbbb=nnnb") {
+        return Outcome::Unreadable;
+    }
+    let mut room = [0u8; OUTPUT_ROOM];
+    read_txt_in(s, f, &mut room)
+}
+
+// Lends the output as it is before the call: an argument.
+fn read_txt_in(s: &[u8], f: Fields, room: &mut [u8]) -> Outcome {
+    let before = bytes_at(s, f, 4);
+    let n = before.len();
+    if room.len() < n {
+        return Outcome::Unreadable;
+    }
+    read_txt_into(s, f, before, &mut room[0..n])
+}
+
+fn read_txt_into(s: &[u8], f: Fields, before: &[u8], output: &mut [u8]) -> Outcome {
+    if output.len() < before.len() {
+        return Outcome::Unreadable;
+    }
+    bytes::copy(before, output);
+    let r = tweedstork::tweedstork_read_txt(bytes_at(s, f, 2), bytes_at(s, f, 3), output);
+    compared_txt(s, f, r, output)
+}
+
+// The last field of the answer is the whole output after the call.
+fn compared_txt(s: &[u8], f: Fields, r: TxtAnswer, output: &[u8]) -> Outcome {
+    if !check::same(output, bytes_at(s, f, 9)) {
+        say(name(s, f));
+        say(b": output differs\n");
+        return Outcome::Differs;
+    }
+    compared(
+        name(s, f),
+        three(number_at(f, 6), number_at(f, 7), number_at(f, 8)),
+        three(r.number, r.id_start, r.id_length),
+    )
 }
 
 fn next_host(s: &[u8], f: Fields) -> Outcome {
@@ -45,6 +93,13 @@ fn two(a: u64, b: u64) -> Answer {
     Answer {
         count: 2,
         numbers: [a, b, 0, 0],
+    }
+}
+
+fn three(a: u64, b: u64, c: u64) -> Answer {
+    Answer {
+        count: 3,
+        numbers: [a, b, c, 0],
     }
 }
 
