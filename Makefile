@@ -11,7 +11,7 @@ SANITIZERS = -fsanitize=address,undefined -fno-sanitize-recover=all
 ARCHIVE = target/staticlib/libtweedstork.a
 OUT = target/c
 
-.PHONY: all run test clean toolchain archive programs
+.PHONY: all run test clean toolchain archive examples
 all: archive
 
 toolchain:
@@ -23,17 +23,20 @@ archive: toolchain
 	@echo "proving the crates and building $(ARCHIVE)"
 	@$(RT) staticlib tweedstork >$(OUT)/archive.log 2>&1 || { cat $(OUT)/archive.log; exit 1; }
 
-run: archive
-	@$(CC) $(CFLAGS) $(WARNINGS) -Iinclude examples/relay.c $(ARCHIVE) -o $(OUT)/relay
+# The example programs.
+examples: archive
+	@for example in relay discover; do $(CC) $(CFLAGS) $(WARNINGS) -Iinclude examples/$$example.c $(ARCHIVE) -o $(OUT)/$$example || exit 1; done
+
+run: examples
+	@echo; $(OUT)/discover examples/domain/records.txt examples/domain/policy.txt
 	@echo; $(OUT)/relay 20:4 10:22 10:24
 	@echo; $(OUT)/relay 10:20 20:25
 
 # The C tests, then the layout of the source, then the proofs, the must-fail edits and the cases.
-test: archive
+test: examples
 	@$(CC) $(CFLAGS) $(WARNINGS) $(SANITIZERS) -Iinclude tests/boundary.c $(ARCHIVE) -o $(OUT)/boundary
 	$(OUT)/boundary
-	@$(CC) $(CFLAGS) $(WARNINGS) -Iinclude examples/relay.c $(ARCHIVE) -o $(OUT)/relay
-	tests/examples.sh $(OUT)/relay
+	tests/examples.sh $(OUT)
 	$(RT) fmt --check
 	$(RT) ci
 

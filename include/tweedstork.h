@@ -11,7 +11,7 @@
  * - A number is a uint64_t. A byte slice is a pointer and a length; NULL with length 0 is an empty slice.
  * - A list of numbers is a byte slice, four bytes each, the highest first.
  * - An answer is a struct; its first field is the answer number, one of enum tweedstork_number. It is never zero.
- * - A refusal (40 to 67) has zero in every other field.
+ * - A refusal (40 to 67) has zero in every other field, and leaves lent memory as it was, but for 42 (see there).
  * - No call keeps a pointer, allocates or has state. Calls may run on any number of threads at once.
  */
 #ifndef TWEEDSTORK_H
@@ -32,6 +32,9 @@ enum tweedstork_number {
     TWEEDSTORK_DANE = 3,                    /* authenticated by DANE */
     TWEEDSTORK_MTA_STS = 4,                 /* authenticated by MTA-STS */
     TWEEDSTORK_DANE_AND_MTA_STS = 5,        /* authenticated by both */
+    /* readers */
+    TWEEDSTORK_TXT_ACCEPTED = 6,            /* TXT record accepted */
+    TWEEDSTORK_POLICY_ACCEPTED = 7,         /* policy accepted */
     /* a message's hosts */
     TWEEDSTORK_TRY_HOST = 8,                /* try this host */
     TWEEDSTORK_NOT_TRIED = 9,               /* (input only) host not tried yet */
@@ -48,6 +51,14 @@ enum tweedstork_number {
     TWEEDSTORK_MX_LOOKUP_FAILED = 30,       /* MX lookup failed */
     TWEEDSTORK_NO_HOST_LEFT = 31,           /* every host is a "next host" */
     /* refusals */
+    TWEEDSTORK_TXT_NO_CANDIDATE = 40,       /* TXT: no record begins with "v=STSv1;" */
+    TWEEDSTORK_TXT_SEVERAL = 41,            /* TXT: several do */
+    TWEEDSTORK_TXT_MALFORMED = 42,          /* TXT: the one that does is malformed */
+    TWEEDSTORK_TXT_WIRE_FORM = 43,          /* TXT: wire form broken */
+    TWEEDSTORK_TXT_OUTPUT_SHORT = 44,       /* TXT: output too short */
+    TWEEDSTORK_POLICY_LONG = 50,            /* policy: over 65,536 bytes */
+    TWEEDSTORK_POLICY_MALFORMED = 51,       /* policy: malformed */
+    TWEEDSTORK_POLICY_INCOMPLETE = 52,      /* policy: required field missing */
     TWEEDSTORK_BAD_HOST_LIST = 63,          /* host list empty, over 32, lists of unequal length or with left-over bytes,
                                                a preference over 65,535, or a number that is no host verdict */
     TWEEDSTORK_BAD_CODE = 67                /* an input code outside its named choices */
@@ -58,6 +69,51 @@ enum tweedstork_mx_lookup {
     TWEEDSTORK_MX_ANSWERED = 1,
     TWEEDSTORK_MX_FAILED = 2
 };
+
+struct tweedstork_txt_answer {
+    uint64_t number;
+    uint64_t id_start;
+    uint64_t id_length;
+};
+
+/*
+ * Which MTA-STS record do the TXT RDATAs of _mta-sts.DOMAIN hold (RFC 8461, 3.1)?
+ *
+ * Takes:   rdatas: the RDATAs in wire form, one after another. lengths: list of numbers, the length of each.
+ *          output: memory that the record's text is written into; it must not overlap the other two.
+ * Answers: TWEEDSTORK_TXT_ACCEPTED with the id as a part of the output: id_length bytes (1 to 32) from id_start on.
+ *          Refusals, in this order: TWEEDSTORK_TXT_WIRE_FORM (the lengths don't sum to the bytes, an RDATA is empty, or a
+ *          character string runs past its RDATA), _NO_CANDIDATE, _SEVERAL, _OUTPUT_SHORT, _MALFORMED.
+ * Leaves:  with TWEEDSTORK_TXT_ACCEPTED and TWEEDSTORK_TXT_MALFORMED the record's text at the front of the output and the
+ *          rest of it as it was; with every other answer the output as it was.
+ */
+struct tweedstork_txt_answer tweedstork_read_txt(
+    const uint8_t *rdatas, size_t rdatas_length,
+    const uint8_t *lengths, size_t lengths_length,
+    uint8_t *output, size_t output_length);
+
+enum tweedstork_mode {
+    TWEEDSTORK_ENFORCE = 1,
+    TWEEDSTORK_TESTING = 2,
+    TWEEDSTORK_NONE = 3
+};
+
+struct tweedstork_policy_answer {
+    uint64_t number;
+    uint64_t mode;
+    uint64_t lifetime;
+    uint64_t mx_count;
+};
+
+/*
+ * What does the body of an MTA-STS policy say (RFC 8461, 3.2)?
+ *
+ * Takes:   body: the policy as fetched.
+ * Answers: TWEEDSTORK_POLICY_ACCEPTED with its mode (enum tweedstork_mode), its lifetime in seconds (max_age, at most
+ *          31,557,600) and how many mx lines it has. Refusals, in this order: TWEEDSTORK_POLICY_LONG, _MALFORMED, _INCOMPLETE.
+ * Leaves:  all memory as it was.
+ */
+struct tweedstork_policy_answer tweedstork_read_policy(const uint8_t *body, size_t body_length);
 
 struct tweedstork_message_answer {
     uint64_t number;

@@ -91,9 +91,68 @@ static void message_hosts(void)
     next_host("the largest number is no code", UINT64_MAX, list_of(NULL, 0, 0), list_of(NULL, 0, 0), TWEEDSTORK_BAD_CODE, 0);
 }
 
+/* Asks with an output of just its size, and sees what is in it afterwards. */
+static void read_txt(const char *name, const char *rdatas, size_t rdatas_length, struct list lengths, const char *before, uint64_t number, uint64_t start, uint64_t length, const char *after)
+{
+    size_t room = strlen(before);
+    uint8_t *output = room == 0 ? NULL : malloc(room), *wire = rdatas_length == 0 ? NULL : malloc(rdatas_length);
+    if ((room != 0 && output == NULL) || (rdatas_length != 0 && wire == NULL))
+        abort();
+    if (room != 0)
+        memcpy(output, before, room);
+    if (rdatas_length != 0)
+        memcpy(wire, rdatas, rdatas_length);
+    struct tweedstork_txt_answer answer = tweedstork_read_txt(wire, rdatas_length, lengths.bytes, lengths.length, output, room);
+    expect(name, answer.number == number && answer.id_start == start && answer.id_length == length);
+    expect(name, room == 0 || memcmp(output, after, room) == 0);
+    free(output);
+    free(wire);
+    free(lengths.bytes);
+}
+
+static void txt_records(void)
+{
+    static const char record[] = "\x1cv=STSv1; id=20160831085700Z;";
+    uint32_t size = 29;
+    read_txt("the record of RFC 8461", record, 29, list_of(&size, 1, 0), "..............................", TWEEDSTORK_TXT_ACCEPTED, 12, 15, "v=STSv1; id=20160831085700Z;..");
+    read_txt("an output of just its size", record, 29, list_of(&size, 1, 0), "............................", TWEEDSTORK_TXT_ACCEPTED, 12, 15, "v=STSv1; id=20160831085700Z;");
+    read_txt("an output of one byte less", record, 29, list_of(&size, 1, 0), "...........................", TWEEDSTORK_TXT_OUTPUT_SHORT, 0, 0, "...........................");
+    read_txt("no output, as NULL", record, 29, list_of(&size, 1, 0), "", TWEEDSTORK_TXT_OUTPUT_SHORT, 0, 0, "");
+    read_txt("left-over bytes", record, 29, list_of(&size, 1, 1), "....", TWEEDSTORK_TXT_WIRE_FORM, 0, 0, "....");
+    read_txt("nothing at all, as NULL", NULL, 0, list_of(NULL, 0, 0), "", TWEEDSTORK_TXT_NO_CANDIDATE, 0, 0, "");
+}
+
+static void read_policy(const char *name, const char *body, size_t length, uint64_t number, uint64_t mode, uint64_t lifetime, uint64_t mx_count)
+{
+    uint8_t *bytes = length == 0 ? NULL : malloc(length);
+    if (length != 0 && bytes == NULL)
+        abort();
+    if (length != 0 && body != NULL)
+        memcpy(bytes, body, length);
+    else if (length != 0)
+        memset(bytes, 'a', length);
+    struct tweedstork_policy_answer answer = tweedstork_read_policy(bytes, length);
+    expect(name, answer.number == number && answer.mode == mode && answer.lifetime == lifetime && answer.mx_count == mx_count);
+    free(bytes);
+}
+
+static void policies(void)
+{
+    static const char body[] = "version: STSv1\r\nmode: enforce\r\nmx: mail.example.com\r\nmx: *.example.net\r\nmax_age: 604800";
+    read_policy("a policy", body, sizeof body - 1, TWEEDSTORK_POLICY_ACCEPTED, TWEEDSTORK_ENFORCE, 604800, 2);
+    read_policy("a policy cut short", body, sizeof body - 1 - 16, TWEEDSTORK_POLICY_INCOMPLETE, 0, 0, 0);
+    read_policy("no bytes, as NULL", NULL, 0, TWEEDSTORK_POLICY_MALFORMED, 0, 0, 0);
+    read_policy("65,536 bytes", NULL, 65536, TWEEDSTORK_POLICY_MALFORMED, 0, 0, 0);
+    read_policy("65,537 bytes", NULL, 65537, TWEEDSTORK_POLICY_LONG, 0, 0, 0);
+}
+
 int main(void)
 {
+    expect("tweedstork_txt_answer has three numbers", sizeof(struct tweedstork_txt_answer) == 24 && offsetof(struct tweedstork_txt_answer, id_start) == 8 && offsetof(struct tweedstork_txt_answer, id_length) == 16);
+    expect("tweedstork_policy_answer has four numbers", sizeof(struct tweedstork_policy_answer) == 32 && offsetof(struct tweedstork_policy_answer, mode) == 8 && offsetof(struct tweedstork_policy_answer, lifetime) == 16 && offsetof(struct tweedstork_policy_answer, mx_count) == 24);
     expect("tweedstork_message_answer has two numbers", sizeof(struct tweedstork_message_answer) == 16 && offsetof(struct tweedstork_message_answer, position) == 8);
+    txt_records();
+    policies();
     message_hosts();
     printf("boundary: %u passed, %u failed\n", passed, failed);
     return failed == 0 ? 0 : 1;

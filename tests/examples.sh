@@ -1,23 +1,43 @@
 #!/usr/bin/env bash
-# The example relay, on the hosts of document 01, "A message's hosts": what it prints last is the answer that the document gives.
+# The example programs, run on inputs of document 01 and RFC 8461: what they print last is the answer that the papers give.
+# Usage: examples.sh FOLDER, where the programs are
 set -euo pipefail
-relay=$1
+cd "$(dirname "$0")/.."
+programs=$1
+files=$(mktemp -d)
+trap 'rm -rf "$files"' EXIT
 failed=0
 
-expect() { # expect LAST-LINE HOSTS..
-    local want=$1 got
-    shift
-    got=$("$relay" "$@" 2>&1 | tail -n 1) || true
+expect() { # expect LAST-LINE PROGRAM ARGUMENT..
+    local want=$1 program=$2 got
+    shift 2
+    got=$("$programs/$program" "$@" 2>&1 | tail -n 1) || true
     if [ "$got" != "$want" ]; then
-        echo "relay $*: expected '$want', got '$got'"
+        echo "$program $*: expected '$want', got '$got'"
         failed=1
     fi
 }
 
-expect 'answer 4: deliver authenticated by MTA-STS, to host 0' 20:4 10:22 10:24
-expect 'answer 2: deliver encrypted, unauthenticated, to host 2' 20:4 10:22 10:2
-expect 'answer 31: delay: every host is a "next host"' 20:26 10:22 10:24
-expect 'answer 63: refused: bad host list' 65536:1
-expect "relay: '10' is not PREFERENCE:VERDICT" 10
+# document 01, "A message's hosts"
+expect 'answer 4: deliver authenticated by MTA-STS, to host 0' relay 20:4 10:22 10:24
+expect 'answer 2: deliver encrypted, unauthenticated, to host 2' relay 20:4 10:22 10:2
+expect 'answer 31: delay: every host is a "next host"' relay 20:26 10:22 10:24
+expect 'answer 63: refused: bad host list' relay 65536:1
+expect "relay: '10' is not PREFERENCE:VERDICT" relay 10
+
+# RFC 8461, 3.1 and 3.2
+domain=examples/domain
+expect 'policy: answer 7: mode enforce, for 604800 seconds, with 3 mx patterns' discover $domain/records.txt $domain/policy.txt
+printf 'v=STSv1; id=1\nv=STSv1; id=2\n' >"$files/two"
+expect 'records: answer 41: there are several MTA-STS records' discover "$files/two" $domain/policy.txt
+printf 'v=STSv1; id=%0300d;\n' 1 >"$files/long"
+expect 'records: answer 42: the MTA-STS record is malformed' discover "$files/long" $domain/policy.txt
+: >"$files/none"
+expect 'records: answer 40: there is no MTA-STS record' discover "$files/none" $domain/policy.txt
+expect 'policy: answer 51: the policy is malformed' discover $domain/records.txt "$files/none"
+printf 'version: STSv1\nmode: none\n' >"$files/short"
+expect 'policy: answer 52: the policy lacks a required field' discover $domain/records.txt "$files/short"
+expect "discover: cannot read $files/missing (at most 100000 bytes)" discover $domain/records.txt "$files/missing"
+
 [ "$failed" -eq 0 ] && echo "examples: as expected"
 exit "$failed"

@@ -1,10 +1,12 @@
 // The C boundary: each call takes numbers and byte slices of any contents and answers for all of them. `include/tweedstork.h` declares them.
 ghost use mathlib.Core.Path.{_≡_};
 ghost use lib.ListN.{length};
+ghost use Rattle.policies.specs.Policy.{policyAnswer};
 ghost use Rattle.txt.specs.Txt.{readTxt, wroteTxt};
 ghost use Rattle.tweedstork.specs.Calls.{nextHostAnswer};
 use messages::MessageAnswer;
 use messages::MxLookup;
+use policies::PolicyAnswer;
 use txt::TxtAnswer;
 
 // Which MTA-STS record do these TXT RDATAs hold, and what is its id?
@@ -14,6 +16,14 @@ pub extern "C" fn tweedstork_read_txt(rdatas: &[u8], lengths: &[u8], output: &mu
     ensures { λ _. ⌜ now (output .exit) ≡ wroteTxt (now (rdatas .entry)) (now (lengths .entry)) (now (output .entry)) ⌝ }
 {
     txt::read_txt(rdatas, lengths, output)
+}
+
+// What does the body of an MTA-STS policy say?
+#[no_mangle]
+pub extern "C" fn tweedstork_read_policy(body: &[u8]) -> PolicyAnswer
+    ensures { λ r. ⌜ r ≡ policyAnswer (now (body .entry)) ⌝ }
+{
+    policies::read_policy(body)
 }
 
 // Which of a message's hosts decides?

@@ -27,6 +27,9 @@ pub fn run(s: &[u8], f: Fields) -> Outcome {
     if check::same(call, b"read_txt") {
         return read_txt(s, f);
     }
+    if check::same(call, b"read_policy") {
+        return read_policy(s, f);
+    }
     if check::same(call, b"next_host") {
         return next_host(s, f);
     }
@@ -77,6 +80,23 @@ fn compared_txt(s: &[u8], f: Fields, r: TxtAnswer, output: &[u8]) -> Outcome {
     )
 }
 
+fn read_policy(s: &[u8], f: Fields) -> Outcome {
+    if !has_kinds(f, b"wwb=nnnn") {
+        return Outcome::Unreadable;
+    }
+    let r = tweedstork::tweedstork_read_policy(bytes_at(s, f, 2));
+    compared(
+        name(s, f),
+        four(
+            number_at(f, 4),
+            number_at(f, 5),
+            number_at(f, 6),
+            number_at(f, 7),
+        ),
+        four(r.number, r.mode, r.lifetime, r.mx_count),
+    )
+}
+
 fn next_host(s: &[u8], f: Fields) -> Outcome {
     if !has_kinds(f, b"wwnbb=nn") {
         return Outcome::Unreadable;
@@ -100,6 +120,13 @@ fn three(a: u64, b: u64, c: u64) -> Answer {
     Answer {
         count: 3,
         numbers: [a, b, c, 0],
+    }
+}
+
+fn four(a: u64, b: u64, c: u64, d: u64) -> Answer {
+    Answer {
+        count: 4,
+        numbers: [a, b, c, d],
     }
 }
 

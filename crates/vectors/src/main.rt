@@ -24,6 +24,7 @@ fn main() {
         failed: 0,
     };
     let c = run_file(b"read_txt.cases", c);
+    let c = run_file(b"read_policy.cases", c);
     let c = run_file(b"next_host.cases", c);
     say_number(c.passed);
     say(b" passed, ");

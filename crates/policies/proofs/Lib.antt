@@ -1,0 +1,15 @@
+pub mod Lists
+pub mod Texts
+pub mod Values
+pub mod Takes
+pub mod Body
+pub mod Front
+pub mod Same
+pub mod Answers
+pub mod Forms
+pub mod Unicode
+pub mod Ends
+pub mod Exactly
+pub mod Paper
+pub mod Sanity
+mod Worked

@@ -1,0 +1,303 @@
+-- What a reader expects of the definitions. Assumes nothing.
+use Prim.Native.Nat.{ℕ, suc, _+_, _*_, _-_, _≤_}
+use mathlib.Core.Path.{_≡_, refl, sym, ap, _∙_}
+use mathlib.Core.Bool.{Bool, true, false, cond, not, _&&_, _||_}
+use mathlib.Core.List.{List, [], _∷_, _++_}
+use mathlib.Core.Logic.{_⊎_, inl, inr}
+use mathlib.Core.Option.{Option, none, some}
+use native.Mathlib.Omega.{arith}
+use lib.Dec.{eqb, leb, ltb}
+use lib.ListN.{length, getD}
+use borrow.Author.Tests.{ne-eqb, le-ltb, leb-true, le-leb, not-true}
+use Rattle.lists.specs.Bytes.{all}
+use Rattle.lists.specs.Equal.{sameBytes}
+use Rattle.lists.specs.Split.{toFirst, lacks}
+use Rattle.lists.specs.Text.{text}
+use Rattle.lists.proofs.Bools.{and-both}
+use Rattle.clock.specs.Clock.{longest}
+use Rattle.clock.proofs.Laws.{capped-most}
+use Rattle.policies.specs.declared.Mode.{Mode}
+use Rattle.policies.specs.declared.Mode.the-variants as M
+use Rattle.policies.specs.declared.Fault.{Fault}
+use Rattle.policies.specs.Lines.{LF, CR, lines}
+use Rattle.policies.specs.Fields.{valueOf, isNamed, firstNamed, isThere, decimalAfter}
+use Rattle.policies.specs.Policy.{Policy, Reading, tooLong, malformed, incomplete, policy, longestBody, bodyFault, completed, judged, readBody, modeNumber, refused, answerTo, policyAnswer, patternsOf}
+use Rattle.policies.specs.Paper.{Pair, Body, nothing, last, lf, crlf, firstValue, values, Makes, Writes}
+use Rattle.policies.proofs.Ends.{no-cr}
+use Rattle.policies.proofs.Exactly.{wellFormed, fault-exactly}
+use Rattle.policies.proofs.Paper.{accepts, accepted, patterns-are, some-byte}
+
+-- The number is 7, or a refusal 50, 51 or 52 with zeros
+answers : (r : Reading) → (answerTo r .number ≡ 7) ⊎ (answerTo r ≡ refused 50) ⊎ (answerTo r ≡ refused 51) ⊎ (answerTo r ≡ refused 52)
+unfolding answerTo
+answers tooLong = inr (inl refl)
+answers (malformed f) = inr (inr (inl refl))
+answers incomplete = inr (inr (inr refl))
+answers (policy p) = inl refl
+
+pub answer-table : (s : List ℕ) → (policyAnswer s .number ≡ 7) ⊎ (policyAnswer s ≡ refused 50) ⊎ (policyAnswer s ≡ refused 51) ⊎ (policyAnswer s ≡ refused 52)
+unfolding policyAnswer
+answer-table s = answers (readBody s)
+
+-- and never zero
+never-zero : (r : Reading) → answerTo r .number ≡ 0 → ⊥
+unfolding answerTo
+never-zero tooLong h = omega arith
+never-zero (malformed f) h = omega arith
+never-zero incomplete h = omega arith
+never-zero (policy p) h = omega arith
+
+pub answer-never-zero : (s : List ℕ) → policyAnswer s .number ≡ 0 → ⊥
+unfolding policyAnswer
+answer-never-zero s h = never-zero (readBody s) h
+
+-- 7 is the answer to a policy and to nothing else: 1 to 65,536 bytes that write it, a mode 1 to 3, a lifetime of at most the longest, and the number of its patterns,
+-- which are all those of the body
+pub record Accepts (s : List ℕ) : Type 0 where
+  pub read : Policy
+  pub reads : readBody s ≡ policy read
+  pub writes : Writes s read
+  pub some-bytes : 1 ≤ length s
+  pub fits : length s ≤ longestBody
+  pub mode : (1 ≤ policyAnswer s .mode) × (policyAnswer s .mode ≤ 3)
+  pub lifetime : policyAnswer s .lifetime ≤ longest
+  pub patterns : read .patterns ≡ patternsOf s
+  pub count : policyAnswer s .«mx_count» ≡ length (patternsOf s)
+
+mode-range : (m : Mode) → (1 ≤ modeNumber m) × (modeNumber m ≤ 3)
+unfolding modeNumber
+mode-range M.Enforce = (omega arith, omega arith)
+mode-range M.Testing = (omega arith, omega arith)
+mode-range M.None = (omega arith, omega arith)
+
+module _ (s : List ℕ) (p : Policy) (e : readBody s ≡ policy p) where
+  written : Writes s p
+  written = accepted s p e
+
+  answer-is : policyAnswer s ≡ record { number = 7; mode = modeNumber (p .mode); lifetime = p .lifetime .0; «mx_count» = length (p .patterns) }
+  unfolding policyAnswer answerTo
+  answer-is = rw e
+
+  patterns-of : p .patterns ≡ patternsOf s
+  unfolding patternsOf
+  patterns-of = sym (patterns-are s p written)
+
+  policy-accepted : Accepts s
+  policy-accepted =
+      record {
+        read = p;
+        reads = e;
+        writes = written;
+        some-bytes = leb-true 1 (length s) (some-byte s p written);
+        fits = written .fits;
+        mode = rw answer-is (mode-range (p .mode));
+        lifetime = rw (answer-is, written .makes .lifetime) (capped-most (decimalAfter 0 (written .makes .age)));
+        patterns = patterns-of;
+        count = rw answer-is (ap length patterns-of);
+      }
+
+pub accepted-answer : (s : List ℕ) → policyAnswer s .number ≡ 7 → Accepts s
+unfolding policyAnswer answerTo
+accepted-answer s h = go (readBody s) refl h
+  where
+    go : (r : Reading) → readBody s ≡ r → answerTo r .number ≡ 7 → Accepts s
+    go tooLong e k = absurd (omega arith)
+    go (malformed f) e k = absurd (omega arith)
+    go incomplete e k = absurd (omega arith)
+    go (policy p) e k = policy-accepted s p e
+
+-- 50, 51, 52 in order: 50 exactly for more than 65,536 bytes; then 51 exactly for no bytes or lines that are not well-formed; then 52 exactly for a required field missing
+pub answer-exactly : (s : List ℕ) → policyAnswer s ≡ cond (ltb longestBody (length s)) (refused 50) (cond (leb 1 (length s) && wellFormed (lines s)) (answerTo (completed (lines s))) (refused 51))
+unfolding policyAnswer readBody answerTo judged isThere
+answer-exactly s = go (ltb longestBody (length s)) (bodyFault s) (leb 1 (length s) && wellFormed (lines s)) (fault-exactly s)
+  where
+    go : (t : Bool) (o : Option Fault) (w : Bool) → isThere o ≡ not w → answerTo (cond t tooLong (judged o (lines s))) ≡ cond t (refused 50) (cond w (answerTo (completed (lines s))) (refused 51))
+    go true o w h = refl
+    go false none true h = refl
+    go false none false h = absurd (let z : _≡_ {A = ℕ} 0 1 = cc in omega arith)
+    go false (some f) true h = absurd (let z : _≡_ {A = ℕ} 0 1 = cc in omega arith)
+    go false (some f) false h = refl
+
+-- a body has a line exactly where it has a byte
+first-some : (x : ℕ) (ls : List (List ℕ)) → 1 ≤ length (toFirst x ls)
+unfolding toFirst
+first-some x [] = omega arith
+first-some x (l ∷ ls) = omega arith
+
+lines-there : (x : ℕ) (s : List ℕ) → 1 ≤ length (lines (x ∷ s))
+unfolding lines
+lines-there x [] = go (eqb x LF) (eqb x CR)
+  where
+    go : (t u : Bool) → 1 ≤ length (cond t ([] ∷ []) (cond (u && false) [] (toFirst x [])))
+    go true u = omega arith
+    go false true = first-some x []
+    go false false = first-some x []
+lines-there x (y ∷ s) = go (lines-there y s) (eqb x LF) (eqb x CR && eqb y LF)
+  where
+    go : 1 ≤ length (lines (y ∷ s)) → (t u : Bool) → 1 ≤ length (cond t ([] ∷ lines (y ∷ s)) (cond u (lines (y ∷ s)) (toFirst x (lines (y ∷ s)))))
+    go ih true u = omega arith
+    go ih false true = ih
+    go ih false false = first-some x (lines (y ∷ s))
+
+lines-some : (s : List ℕ) → leb 1 (length s) ≡ leb 1 (length (lines s))
+unfolding lines
+lines-some [] = refl
+lines-some (x ∷ s) = le-leb 1 (length (x ∷ s)) (omega arith) ∙ sym (le-leb 1 (length (lines (x ∷ s))) (lines-there x s))
+
+-- Bodies of the same lines get the same answer, whatever the ends of the lines
+pub answer-by-lines : (s t : List ℕ) → lines s ≡ lines t → length s ≤ longestBody → length t ≤ longestBody → policyAnswer s ≡ policyAnswer t
+answer-by-lines s t e h k =
+    answer-exactly s
+    ∙ rw (le-ltb longestBody (length s) h, lines-some s, e, ← lines-some t) (sym (answer-exactly t ∙ rw (le-ltb longestBody (length t) k)))
+
+-- a last end, LF or CRLF, after a line without one changes no line
+module _ (e : List ℕ) (end : (x : ℕ) → (x ≡ LF → ⊥) → (x ≡ CR → ⊥) → lines (x ∷ e) ≡ (x ∷ []) ∷ []) where
+  final : (s : List ℕ) → 1 ≤ length s → (getD s (length s - 1) 0 ≡ LF → ⊥) → (getD s (length s - 1) 0 ≡ CR → ⊥) → lines (s ++ e) ≡ lines s
+  unfolding lines toFirst
+  final [] h n m = absurd (omega arith)
+  final (x ∷ []) h n m = end x n m ∙ rw (ne-eqb x LF n, ne-eqb x CR m)
+  final (x ∷ y ∷ s) h n m =
+      let k : suc (suc (length s)) - 1 ≡ suc (suc (length s) - 1) = omega arith in
+      rw (final (y ∷ s) (omega arith) (λ z. n (rw k z)) (λ z. m (rw k z)))
+
+pub final-lf : (s : List ℕ) → 1 ≤ length s → (getD s (length s - 1) 0 ≡ LF → ⊥) → (getD s (length s - 1) 0 ≡ CR → ⊥) → lines (s ++ (LF ∷ [])) ≡ lines s
+unfolding lines toFirst
+final-lf = final (LF ∷ []) (λ x n m. rw (ne-eqb x LF n, ne-eqb x CR m))
+
+pub final-crlf : (s : List ℕ) → 1 ≤ length s → (getD s (length s - 1) 0 ≡ LF → ⊥) → (getD s (length s - 1) 0 ≡ CR → ⊥) → lines (s ++ (CR ∷ LF ∷ [])) ≡ lines s
+unfolding lines toFirst
+final-crlf = final (CR ∷ LF ∷ []) (λ x n m. rw (ne-eqb x LF n, ne-eqb x CR m))
+
+-- A body that has the fields of an accepted one is read as the same policy: the same mode, lifetime and patterns, whatever its line ends and the blanks in its lines
+pub same-fields : (s t : List ℕ) (p : Policy) (w : Writes s p) → Body t (w .fields) → length t ≤ longestBody → readBody t ≡ policy p
+same-fields s t p w b h = accepts t p (record { fields = w .fields; body = b; makes = w .makes; fits = h })
+
+-- the body with each CRLF turned to LF has the same fields
+unfoldable pub lfOnly : List ℕ → List ℕ
+lfOnly [] = []
+lfOnly (b ∷ s) = cond (eqb b CR && eqb (getD s 0 0) LF) (lfOnly s) (b ∷ lfOnly s)
+
+lf-after : (l t : List ℕ) → lacks CR l ≡ true → lfOnly (l ++ t) ≡ l ++ lfOnly t
+unfolding lfOnly all
+lf-after [] t h = refl
+lf-after (x ∷ l) t h =
+    let k = and-both (not (eqb x CR)) (lacks CR l) h in
+    rw (not-true (eqb x CR) (k .0), lf-after l t (k .1))
+
+lf-line : (l : List ℕ) → lacks CR l ≡ true → lfOnly l ≡ l
+unfolding lfOnly all
+lf-line [] h = refl
+lf-line (x ∷ l) h =
+    let k = and-both (not (eqb x CR)) (lacks CR l) h in
+    rw (not-true (eqb x CR) (k .0), lf-line l (k .1))
+
+pub lf-fields : (s : List ℕ) (fs : List Pair) → Body s fs → Body (lfOnly s) fs
+unfolding lfOnly
+lf-fields s fs nothing = nothing
+lf-fields s fs (last {l} {f} h) = rw (lf-line l (no-cr l f h)) (last h)
+lf-fields s fs (lf {l} {s = t} {f} {fs = gs} h b) = rw (lf-after l (LF ∷ t) (no-cr l f h)) (lf h (lf-fields t gs b))
+lf-fields s fs (crlf {l} {s = t} {f} {fs = gs} h b) = rw (lf-after l (CR ∷ LF ∷ t) (no-cr l f h)) (lf h (lf-fields t gs b))
+
+lf-shorter : (s : List ℕ) → length (lfOnly s) ≤ length s
+unfolding lfOnly
+lf-shorter [] = omega arith
+lf-shorter (b ∷ s) = go (lf-shorter s) (eqb b CR && eqb (getD s 0 0) LF)
+  where
+    go : length (lfOnly s) ≤ length s → (t : Bool) → length (cond t (lfOnly s) (b ∷ lfOnly s)) ≤ suc (length s)
+    go ih true = omega arith
+    go ih false = omega arith
+
+pub lf-same : (s : List ℕ) (p : Policy) → readBody s ≡ policy p → readBody (lfOnly s) ≡ policy p
+lf-same s p e =
+    let w : Writes s p = accepted s p e in
+    same-fields s (lfOnly s) p w (lf-fields s (w .fields) (w .body)) (omega (arith, lf-shorter s, w .fits))
+
+-- The first of a name stays the first, whatever lines follow
+pub first-stays : (name : List ℕ) (ls ms : List (List ℕ)) → isThere (firstNamed name ls) ≡ true → firstNamed name (ls ++ ms) ≡ firstNamed name ls
+unfolding firstNamed isThere
+first-stays name [] ms h = absurd (let z : _≡_ {A = ℕ} 0 1 = cc in omega arith)
+first-stays name (l ∷ ls) ms h = go (first-stays name ls ms) (isNamed name l) h
+  where
+    go : (isThere (firstNamed name ls) ≡ true → firstNamed name (ls ++ ms) ≡ firstNamed name ls) → (t : Bool) → isThere (cond t (some (valueOf l)) (firstNamed name ls)) ≡ true → cond t (some (valueOf l)) (firstNamed name (ls ++ ms)) ≡ cond t (some (valueOf l)) (firstNamed name ls)
+    go ih true k = refl
+    go ih false k = ih k
+
+-- the field has another name, or one of the fields before it has this name
+unfoldable pub isLater : List ℕ → List Pair → Pair → Bool
+isLater name fs f = not (sameBytes (f .name) name) || isThere (firstValue name fs)
+
+-- the field is no `mx`, and no first version, mode or max_age
+unfoldable pub isIgnored : List Pair → Pair → Bool
+isIgnored fs f = not (sameBytes (f .name) (text "mx")) && isLater (text "version") fs f && isLater (text "mode") fs f && isLater (text "max_age") fs f
+
+first-ignored : (name : List ℕ) (f : Pair) (fs gs : List Pair) → isLater name fs f ≡ true → firstValue name (fs ++ (f ∷ gs)) ≡ firstValue name (fs ++ gs)
+unfolding isLater firstValue isThere
+first-ignored name f [] gs h = go (sameBytes (f .name) name) h
+  where
+    go : (t : Bool) → (not t || false) ≡ true → cond t (some (f .value)) (firstValue name gs) ≡ firstValue name gs
+    go true k = absurd (let z : _≡_ {A = ℕ} 0 1 = cc in omega arith)
+    go false k = refl
+first-ignored name f (g ∷ fs) gs h = go (first-ignored name f fs gs) (sameBytes (g .name) name) h
+  where
+    go : (isLater name fs f ≡ true → firstValue name (fs ++ (f ∷ gs)) ≡ firstValue name (fs ++ gs)) → (t : Bool) → (not (sameBytes (f .name) name) || isThere (cond t (some (g .value)) (firstValue name fs))) ≡ true → cond t (some (g .value)) (firstValue name (fs ++ (f ∷ gs))) ≡ cond t (some (g .value)) (firstValue name (fs ++ gs))
+    go ih true k = refl
+    go ih false k = ih k
+
+values-ignored : (name : List ℕ) (f : Pair) (fs gs : List Pair) → sameBytes (f .name) name ≡ false → values name (fs ++ (f ∷ gs)) ≡ values name (fs ++ gs)
+unfolding values
+values-ignored name f [] gs h = rw h
+values-ignored name f (g ∷ fs) gs h = rw (values-ignored name f fs gs h)
+
+-- An ignored field changes nothing, whatever its value: with it and without it the fields make the same policy
+module _ (f : Pair) (fs gs : List Pair) (h : isIgnored fs f ≡ true) (p : Policy) where
+  record Ignored : Type 0 where
+    version : firstValue (text "version") (fs ++ (f ∷ gs)) ≡ firstValue (text "version") (fs ++ gs)
+    mode : firstValue (text "mode") (fs ++ (f ∷ gs)) ≡ firstValue (text "mode") (fs ++ gs)
+    age : firstValue (text "max_age") (fs ++ (f ∷ gs)) ≡ firstValue (text "max_age") (fs ++ gs)
+    mx : values (text "mx") (fs ++ (f ∷ gs)) ≡ values (text "mx") (fs ++ gs)
+
+  unseen : Ignored
+  unfolding isIgnored
+  unseen =
+      let v : Bool = isLater (text "version") fs f in
+      let m : Bool = isLater (text "mode") fs f in
+      let x : Bool = not (sameBytes (f .name) (text "mx")) in
+      let a = and-both (x && v && m) (isLater (text "max_age") fs f) h in
+      let b = and-both (x && v) m (a .0) in
+      let c = and-both x v (b .0) in
+      record {
+        version = first-ignored (text "version") f fs gs (c .1);
+        mode = first-ignored (text "mode") f fs gs (b .1);
+        age = first-ignored (text "max_age") f fs gs (a .1);
+        mx = values-ignored (text "mx") f fs gs (not-true (sameBytes (f .name) (text "mx")) (c .0));
+      }
+
+  moved : (a b : List Pair) → firstValue (text "version") a ≡ firstValue (text "version") b → firstValue (text "mode") a ≡ firstValue (text "mode") b → firstValue (text "max_age") a ≡ firstValue (text "max_age") b → values (text "mx") a ≡ values (text "mx") b → Makes b p → Makes a p
+  moved a b v m g x k =
+      record {
+        version = v ∙ k .version;
+        mode = m ∙ k .mode;
+        age = k .age;
+        max-age = g ∙ k .max-age;
+        digits = k .digits;
+        lifetime = k .lifetime;
+        mx = k .mx ∙ sym x;
+        names = k .names;
+        enough = k .enough;
+      }
+
+  pub ignored-with : Makes (fs ++ gs) p → Makes (fs ++ (f ∷ gs)) p
+  ignored-with = moved (fs ++ (f ∷ gs)) (fs ++ gs) (unseen .version) (unseen .mode) (unseen .age) (unseen .mx)
+
+  pub ignored-without : Makes (fs ++ (f ∷ gs)) p → Makes (fs ++ gs) p
+  ignored-without = moved (fs ++ gs) (fs ++ (f ∷ gs)) (sym (unseen .version)) (sym (unseen .mode)) (sym (unseen .age)) (sym (unseen .mx))
+
+-- Digits are decimal: a digit more makes ten times the number and the digit; a zero in front changes nothing
+pub decimal-digit : (n : ℕ) (v : List ℕ) (d : ℕ) → decimalAfter n (v ++ (d ∷ [])) ≡ decimalAfter n v * 10 + (d - 48)
+unfolding decimalAfter
+decimal-digit n [] d = refl
+decimal-digit n (x ∷ v) d = decimal-digit (n * 10 + (x - 48)) v d
+
+pub decimal-zero : (v : List ℕ) → decimalAfter 0 (48 ∷ v) ≡ decimalAfter 0 v
+unfolding decimalAfter
+decimal-zero v = refl

@@ -1,0 +1,181 @@
+-- The ways out of the functions that take a field or a line. Assumes nothing.
+use Prim.Native.Nat.{ℕ, _+_, _-_, _<_, _≤_}
+use mathlib.Core.Path.{_≡_, refl, sym, _∙_}
+use mathlib.Core.Bool.{Bool, true, false, and-false}
+use mathlib.Core.List.{List}
+use mathlib.Core.Option.{Option, none, some}
+use native.Mathlib.Omega.{arith}
+use lib.ListN.{length, take, drop, length-drop}
+use lib.Seq.{drop-drop}
+use borrow.Author.Needs.{needs}
+use borrow.Author.Tests.{not-true, not-false}
+use Rattle.lists.specs.Bytes.{all}
+use Rattle.lists.specs.Equal.{sameBytes}
+use Rattle.lists.specs.Span.{spanOf}
+use Rattle.lists.specs.Split.{indexOf}
+use Rattle.lists.specs.Text.{text}
+use Rattle.lists.proofs.Laws.{take-rest}
+use Rattle.lists.proofs.Span.{span-le}
+use Rattle.names.specs.Name.{isPattern}
+use Rattle.fields.specs.Name.{hasName}
+use Rattle.fields.specs.Blank.{blank, unblanked}
+use Rattle.fields.proofs.Blank.{unblanked-le}
+use Rattle.policies.specs.declared.Cause.{Cause}
+use Rattle.policies.specs.declared.Kind.{Kind}
+use Rattle.policies.specs.declared.Mode.{Mode}
+use Rattle.policies.specs.declared.MaybeMode.{MaybeMode}
+use Rattle.policies.specs.declared.MaybeAge.{MaybeAge}
+use Rattle.policies.specs.declared.Seen.{Seen}
+use Rattle.policies.specs.declared.Step.{Step}
+use Rattle.policies.specs.Texts.{printable, isText, isValue}
+use Rattle.policies.specs.Fields.{nameOf, valueOf, isLine, isVersion, modeOf, ageOf}
+use Rattle.policies.specs.Reader.{kindOf, heldMode, heldAge, holdsMode, holdsAge, newMode, newAge, takeVersion, takeMode, takeAge, takeMx, takeField, takeLine}
+use Rattle.policies.proofs.Lists.{all-drop, all-take}
+use Rattle.policies.proofs.Texts.{printable-text}
+
+-- `take_version`, `take_mode`, `take_age` and `take_mx`: r is what was seen before the value v
+module _ (r : Seen) (v : List ℕ) where
+  pub version-had : r .version ≡ true → Step.Next r ≡ takeVersion r v
+  unfolding takeVersion
+  version-had h = cc
+
+  module _ (h : r .version ≡ false) (b : Bool) (g : b ≡ sameBytes v (text "STSv1")) where
+    pub version-bad : b ≡ false → Step.Broken Cause.Version ≡ takeVersion r v
+    unfolding takeVersion isVersion
+    version-bad e = cc
+
+    pub version-good : b ≡ true → Step.Next (record { version = true; mode = r .mode; age = r .age }) ≡ takeVersion r v
+    unfolding takeVersion isVersion
+    version-good e = cc
+
+  pub mode-had : (m : Mode) → r .mode ≡ MaybeMode.Is m → Step.Next r ≡ takeMode r v
+  unfolding takeMode holdsMode
+  mode-had m h = rw h
+
+  module _ (h : r .mode ≡ MaybeMode.Nothing) (m : MaybeMode) (g : m ≡ heldMode (modeOf v)) where
+    pub mode-bad : m ≡ MaybeMode.Nothing → Step.Broken Cause.Mode ≡ takeMode r v
+    unfolding takeMode holdsMode heldMode newMode
+    mode-bad e = let k : holdsMode (r .mode) ≡ false = rw h in rw k (go (modeOf v) (sym g ∙ e))
+      where
+        go : (o : Option Mode) → heldMode o ≡ MaybeMode.Nothing → Step.Broken Cause.Mode ≡ newMode r o
+        go none k = refl
+        go (some x) k = absurd (let z : _≡_ {A = ℕ} 0 1 = cc in omega arith)
+
+    pub mode-good : (x : Mode) → m ≡ MaybeMode.Is x → Step.Next (record { version = r .version; mode = m; age = r .age }) ≡ takeMode r v
+    unfolding takeMode holdsMode heldMode newMode
+    mode-good x e = let k : holdsMode (r .mode) ≡ false = rw h in rw k (go (modeOf v) g)
+      where
+        go : (o : Option Mode) → m ≡ heldMode o → Step.Next (record { version = r .version; mode = m; age = r .age }) ≡ newMode r o
+        go none k = absurd (let z : _≡_ {A = ℕ} 0 1 = cc in omega arith)
+        go (some y) k = rw k
+
+  pub age-had : (n : ℕ) → r .age ≡ MaybeAge.Is n → Step.Next r ≡ takeAge r v
+  unfolding takeAge holdsAge
+  age-had n h = rw h
+
+  module _ (h : r .age ≡ MaybeAge.Nothing) (a : MaybeAge) (g : a ≡ heldAge (ageOf v)) where
+    pub age-bad : a ≡ MaybeAge.Nothing → Step.Broken Cause.MaxAge ≡ takeAge r v
+    unfolding takeAge holdsAge heldAge newAge
+    age-bad e = let k : holdsAge (r .age) ≡ false = rw h in rw k (go (ageOf v) (sym g ∙ e))
+      where
+        go : (o : Option ℕ) → heldAge o ≡ MaybeAge.Nothing → Step.Broken Cause.MaxAge ≡ newAge r o
+        go none k = refl
+        go (some n) k = absurd (let z : _≡_ {A = ℕ} 0 1 = cc in omega arith)
+
+    pub age-good : (n : ℕ) → a ≡ MaybeAge.Is n → Step.Next (record { version = r .version; mode = r .mode; age = a }) ≡ takeAge r v
+    unfolding takeAge holdsAge heldAge newAge
+    age-good n e = let k : holdsAge (r .age) ≡ false = rw h in rw k (go (ageOf v) g)
+      where
+        go : (o : Option ℕ) → a ≡ heldAge o → Step.Next (record { version = r .version; mode = r .mode; age = a }) ≡ newAge r o
+        go none k = absurd (let z : _≡_ {A = ℕ} 0 1 = cc in omega arith)
+        go (some m) k = rw k
+
+module _ (v : List ℕ) (b : Bool) (g : b ≡ isPattern v) where
+  pub mx-bad : b ≡ false → Step.Broken Cause.Mx ≡ takeMx v
+  unfolding takeMx
+  mx-bad e = cc
+
+  pub mx-good : b ≡ true → Step.Pattern ≡ takeMx v
+  unfolding takeMx
+  mx-good e = cc
+
+pub ruleset version-laws = (version-had, version-bad, version-good, not-true, not-false, needs)
+
+pub ruleset mode-laws = (mode-had, mode-bad, mode-good, needs)
+
+pub ruleset age-laws = (age-had, age-bad, age-good, needs)
+
+pub ruleset mx-laws = (mx-bad, mx-good, not-true, not-false, needs)
+
+-- `take_field`: s is what the call for the kind k gave
+module _ (r : Seen) (v : List ℕ) (k : Kind) (s : Step) where
+  pub field-version : k ≡ Kind.Version → s ≡ takeVersion r v → s ≡ takeField r k v
+  unfolding takeField
+  field-version e h = rw e h
+
+  pub field-mode : k ≡ Kind.Mode → s ≡ takeMode r v → s ≡ takeField r k v
+  unfolding takeField
+  field-mode e h = rw e h
+
+  pub field-age : k ≡ Kind.MaxAge → s ≡ takeAge r v → s ≡ takeField r k v
+  unfolding takeField
+  field-age e h = rw e h
+
+  pub field-mx : k ≡ Kind.Mx → s ≡ takeMx v → s ≡ takeField r k v
+  unfolding takeField
+  field-mx e h = rw e h
+
+pub field-other : (r : Seen) (v : List ℕ) (k : Kind) → k ≡ Kind.Other → Step.Next r ≡ takeField r k v
+unfolding takeField
+field-other r v k e = rw e
+
+pub ruleset field-laws = (field-version, field-mode, field-age, field-mx, field-other, needs)
+
+-- `value_of`: the colon stands at e; `from` and `to` are what its calls gave
+module _ (l : List ℕ) (e : ℕ) (at : e ≡ indexOf 58 l) (w : e < length l) (from : ℕ) (f : from ≡ e + 1 + spanOf blank (drop (e + 1) l)) where
+  pub from-fits : from ≤ length l
+  from-fits = omega (arith, span-le blank (drop (e + 1) l), length-drop (e + 1) l)
+
+  value-from : valueOf l ≡ take (unblanked (drop from l)) (drop from l)
+  unfolding valueOf
+  value-from =
+      let k : drop (spanOf blank (drop (e + 1) l)) (drop (e + 1) l) ≡ drop from l = drop-drop (spanOf blank (drop (e + 1) l)) (e + 1) l ∙ rw f in
+      rw (sym at, k)
+
+  module _ (to : ℕ) (g : to ≡ unblanked (take (length l - from) (drop from l))) where
+    pub to-fits : to ≤ length (take (length l - from) (drop from l))
+    to-fits = omega (arith, unblanked-le (take (length l - from) (drop from l)))
+
+    pub value-is : take (to - 0) (take (length l - from) (drop from l)) ≡ valueOf l
+    value-is =
+        let k : take (length l - from) (drop from l) ≡ drop from l = take-rest l from in
+        let z : to - 0 ≡ to = omega arith in
+        rw (value-from, z, g, k)
+
+pub ruleset value-laws = (from-fits, to-fits, value-is, needs)
+
+-- where all bytes after the colon are printable, the value is a text
+pub printable-value : (l v : List ℕ) (e : ℕ) (b : Bool) → e ≡ indexOf 58 l → b ≡ all printable (drop (e + 1) l) → v ≡ valueOf l → b ≡ true → isText v ≡ true
+unfolding valueOf
+printable-value l v e b at g x y =
+    let d : List ℕ = drop (indexOf 58 l + 1) l in
+    let f : List ℕ = drop (spanOf blank d) d in
+    let k : all printable d ≡ true = rw at at (sym g ∙ y) in
+    rw x (printable-text (valueOf l) (all-take printable (unblanked f) f (all-drop printable (spanOf blank d) d k)))
+
+-- `take_value`: v is the line's value, b whether it is a value
+module _ (r : Seen) (l : List ℕ) (v : List ℕ) (x : v ≡ valueOf l) (b : Bool) (g : b ≡ isValue v) where
+  pub line-bad : b ≡ false → Step.Broken Cause.Form ≡ takeLine r l
+  unfolding takeLine isLine
+  line-bad h =
+      let k : isValue (valueOf l) ≡ false = cc in
+      rw (k, and-false)
+
+  pub line-good : (e : ℕ) → hasName 58 l ≡ true → e ≡ indexOf 58 l → b ≡ true → (k : Kind) → k ≡ kindOf (take (e - 0) l) → (s : Step) → s ≡ takeField r k v → s ≡ takeLine r l
+  unfolding takeLine isLine nameOf
+  line-good e has at h k c s y =
+      let i : isValue (valueOf l) ≡ true = cc in
+      let z : e - 0 ≡ e = omega arith in
+      rw (i, has, sym at) (y ∙ rw (c, x, z))
+
+pub ruleset line-laws = (printable-value, line-bad, line-good, not-true, not-false, needs)

@@ -1,0 +1,159 @@
+-- The ways out of the functions that read a name or a value. Assumes nothing.
+use Prim.Native.Nat.{ℕ, _+_, _*_, _-_, _^_, _<_, _≤_}
+use mathlib.Core.Path.{_≡_, refl, sym, ap, _∙_}
+use mathlib.Core.Bool.{Bool, true, false, cond, _&&_, and-false}
+use mathlib.Core.List.{List}
+use native.Mathlib.Nat.{pow-suc, pow-le-pow-right}
+use native.Mathlib.Numerals.{add-one}
+use native.Mathlib.Omega.{arith}
+use lib.Dec.{leb}
+use lib.ListN.{length, getD, drop, drop-of-length-le}
+use borrow.Author.Needs.{needs}
+use borrow.Author.Tests.{not-true, not-false, lt-leb, le-leb, leb-true}
+use Rattle.lists.specs.Bytes.{within, all}
+use Rattle.lists.specs.Equal.{sameBytes}
+use Rattle.lists.specs.Text.{text}
+use Rattle.lists.proofs.All.{all-next, all-fail, all-end}
+use Rattle.lists.proofs.Laws.{drop-next}
+use Rattle.policies.specs.declared.Kind.{Kind}
+use Rattle.policies.specs.declared.Mode.{Mode}
+use Rattle.policies.specs.declared.MaybeMode.{MaybeMode}
+use Rattle.policies.specs.declared.MaybeAge.{MaybeAge}
+use Rattle.policies.specs.Fields.{modeOf, isDigit, decimalAfter, ageOf}
+use Rattle.policies.specs.Reader.{kindOf, digitOf, heldMode, heldAge}
+
+-- `kind_of`: a, b, c, d are what its calls gave
+module _ (n : List ℕ) (a : Bool) (p : a ≡ sameBytes n (text "mx")) where
+  pub kind-mx : a ≡ true → Kind.Mx ≡ kindOf n
+  unfolding kindOf
+  kind-mx t = cc
+
+  module _ (f : a ≡ false) (b : Bool) (q : b ≡ sameBytes n (text "version")) where
+    pub kind-version : b ≡ true → Kind.Version ≡ kindOf n
+    unfolding kindOf
+    kind-version t = cc
+
+    module _ (g : b ≡ false) (c : Bool) (r : c ≡ sameBytes n (text "mode")) where
+      pub kind-mode : c ≡ true → Kind.Mode ≡ kindOf n
+      unfolding kindOf
+      kind-mode t = cc
+
+      module _ (h : c ≡ false) (d : Bool) (u : d ≡ sameBytes n (text "max_age")) where
+        pub kind-age : d ≡ true → Kind.MaxAge ≡ kindOf n
+        unfolding kindOf
+        kind-age t = cc
+
+        pub kind-other : d ≡ false → Kind.Other ≡ kindOf n
+        unfolding kindOf
+        kind-other t = cc
+
+pub ruleset kind-laws = (kind-mx, kind-version, kind-mode, kind-age, kind-other, needs)
+
+-- `mode_of`: a, b, c are what its calls gave
+module _ (v : List ℕ) (a : Bool) (p : a ≡ sameBytes v (text "enforce")) where
+  pub mode-enforce : a ≡ true → MaybeMode.Is Mode.Enforce ≡ heldMode (modeOf v)
+  unfolding modeOf heldMode
+  mode-enforce t = cc
+
+  module _ (f : a ≡ false) (b : Bool) (q : b ≡ sameBytes v (text "testing")) where
+    pub mode-testing : b ≡ true → MaybeMode.Is Mode.Testing ≡ heldMode (modeOf v)
+    unfolding modeOf heldMode
+    mode-testing t = cc
+
+    module _ (g : b ≡ false) (c : Bool) (r : c ≡ sameBytes v (text "none")) where
+      pub mode-none : c ≡ true → MaybeMode.Is Mode.None ≡ heldMode (modeOf v)
+      unfolding modeOf heldMode
+      mode-none t = cc
+
+      pub mode-other : c ≡ false → MaybeMode.Nothing ≡ heldMode (modeOf v)
+      unfolding modeOf heldMode
+      mode-other t = cc
+
+pub ruleset mode-laws = (mode-enforce, mode-testing, mode-none, mode-other, needs)
+
+-- a digit is between `0` and `9`
+pub digit-between : (b : ℕ) → isDigit b ≡ true → (48 ≤ b) × (b ≤ 57)
+unfolding isDigit
+digit-between b e = go (leb 48 b) (leb b 57) refl refl e
+  where
+    go : (t u : Bool) → leb 48 b ≡ t → leb b 57 ≡ u → (t && u) ≡ true → (48 ≤ b) × (b ≤ 57)
+    go true true p q k = (leb-true 48 b p, leb-true b 57 q)
+    go true false p q k = absurd (let z : _≡_ {A = ℕ} 0 1 = cc in omega arith)
+    go false u p q k = absurd (let z : _≡_ {A = ℕ} 0 1 = cc in omega arith)
+
+-- `digit_of`: r is what `is_within` gave
+module _ (b : ℕ) (r : Bool) (g : r ≡ within 48 57 b) where
+  pub digit-none : r ≡ false → 10 ≡ digitOf b
+  unfolding digitOf isDigit
+  digit-none e = cc
+
+  pub digit-low : r ≡ true → b < 48 → 10 ≡ digitOf b
+  unfolding isDigit
+  digit-low e h = absurd (omega (arith, digit-between b (sym g ∙ e) .0))
+
+  pub digit-value : r ≡ true → b - 48 ≡ digitOf b
+  unfolding digitOf isDigit
+  digit-value e = cc
+
+pub ruleset digit-laws = (digit-none, digit-low, digit-value, not-true, not-false, needs)
+
+-- what the value of a digit says
+module _ (b d : ℕ) (e : d ≡ digitOf b) where
+  digit-yes : d ≤ 9 → isDigit b ≡ true
+  unfolding digitOf
+  digit-yes h = go (isDigit b) e
+    where
+      go : (t : Bool) → d ≡ cond t (b - 48) 10 → t ≡ true
+      go true e = refl
+      go false e = absurd (omega arith)
+
+  digit-no : 9 < d → isDigit b ≡ false
+  unfolding digitOf
+  digit-no h = go (isDigit b) refl e
+    where
+      go : (t : Bool) → isDigit b ≡ t → d ≡ cond t (b - 48) 10 → t ≡ false
+      go true p e = absurd (omega (arith, digit-between b p .1))
+      go false p e = refl
+
+  digit-is : d ≤ 9 → d ≡ b - 48
+  unfolding digitOf
+  digit-is h = e ∙ rw (digit-yes h)
+
+-- `age_of`: its ways out, and a turn of its loop, where d is the digit at i
+pub age-short : (v : List ℕ) → length v < 1 → MaybeAge.Nothing ≡ heldAge (ageOf v)
+unfolding heldAge ageOf
+age-short v h = rw (lt-leb 1 (length v) h)
+
+pub age-long : (v : List ℕ) → 10 < length v → MaybeAge.Nothing ≡ heldAge (ageOf v)
+unfolding heldAge ageOf
+age-long v h =
+    let k : 1 ≤ length v = omega arith in
+    rw (le-leb 1 (length v) k, lt-leb (length v) 10 h)
+
+pub below-next : (n d i : ℕ) → n < 10 ^ i → d ≤ 9 → n * 10 + d < 10 ^ (i + 1)
+below-next n d i h k =
+    let e : 10 ^ (i + 1) ≡ 10 ^ i * 10 = ap (λ (k : ℕ). 10 ^ k) (add-one i) ∙ pow-suc 10 i in
+    omega arith
+
+pub below-most : (i k : ℕ) → i < k → k ≤ 10 → 10 ^ (i + 1) ≤ 10000000000
+below-most i k h l = pow-le-pow-right {n = 10} (omega arith) {i = i + 1} {j = 10} (omega arith)
+
+module _ (v : List ℕ) (i : ℕ) (d : ℕ) (h : i < length v) (g : d ≡ digitOf (getD v i 0)) where
+  pub age-digits : all isDigit v ≡ all isDigit (drop i v) → d ≤ 9 → all isDigit v ≡ all isDigit (drop (i + 1) v)
+  age-digits inv k = all-next isDigit v i inv h true (sym (digit-yes (getD v i 0) d g k)) refl
+
+  pub age-other : all isDigit v ≡ all isDigit (drop i v) → 9 < d → MaybeAge.Nothing ≡ heldAge (ageOf v)
+  unfolding heldAge ageOf
+  age-other inv k = simp (all-fail isDigit v i inv h false (sym (digit-no (getD v i 0) d g k)) refl, and-false)
+
+  pub age-next : (n : ℕ) → decimalAfter 0 v ≡ decimalAfter n (drop i v) → d ≤ 9 → decimalAfter 0 v ≡ decimalAfter (n * 10 + d) (drop (i + 1) v)
+  unfolding decimalAfter
+  age-next n inv k = inv ∙ rw (drop-next v i h, digit-is (getD v i 0) d g k)
+
+pub age-good : (v : List ℕ) (i n : ℕ) → all isDigit v ≡ all isDigit (drop i v) → decimalAfter 0 v ≡ decimalAfter n (drop i v) → length v ≤ i → 1 ≤ length v → length v ≤ 10 → MaybeAge.Is n ≡ heldAge (ageOf v)
+unfolding heldAge ageOf decimalAfter
+age-good v i n a inv h l m =
+    let k : decimalAfter 0 v ≡ n = inv ∙ rw (drop-of-length-le v h) in
+    rw (k, all-end isDigit v i a h, le-leb 1 (length v) l, le-leb (length v) 10 m)
+
+pub ruleset age-laws = (age-short, age-long, below-next, below-most, age-digits, age-other, age-next, age-good, needs)

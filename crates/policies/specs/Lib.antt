@@ -1,0 +1,6 @@
+pub mod Paper
+pub mod Texts
+pub mod Lines
+pub mod Fields
+pub mod Policy
+pub mod Reader

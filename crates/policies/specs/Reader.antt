@@ -1,0 +1,175 @@
+-- The reader's own steps, for the contracts of its private functions: not the paper's words, but the same answers (proofs/Same.antt and proofs/Answers.antt join them).
+use Prim.Native.Char.{code}
+use Prim.Native.Nat.{ℕ, _+_, _-_}
+use mathlib.Core.Bool.{Bool, true, false, cond, _&&_}
+use mathlib.Core.List.{List}
+use mathlib.Core.Option.{Option, none, some}
+use lib.Dec.{eqb, ltb}
+use lib.ListN.{length, getD, take, drop}
+use Rattle.lists.specs.Equal.{sameBytes}
+use Rattle.lists.specs.Split.{indexOf}
+use Rattle.lists.specs.Text.{text}
+use Rattle.names.specs.Name.{isPattern}
+use Rattle.names.specs.Scan.{coversName}
+use Rattle.clock.specs.Clock.{cappedAge}
+use Rattle.policies.specs.declared.Mode.{Mode}
+use Rattle.policies.specs.declared.Mode.the-variants as M
+use Rattle.policies.specs.declared.Cause.the-variants as C
+use Rattle.policies.specs.declared.Fault.{Fault}
+use Rattle.policies.specs.declared.Kind.{Kind}
+use Rattle.policies.specs.declared.Kind.the-variants as K
+use Rattle.policies.specs.declared.MaybeMode.{MaybeMode}
+use Rattle.policies.specs.declared.MaybeMode.the-variants as HM
+use Rattle.policies.specs.declared.MaybeAge.{MaybeAge}
+use Rattle.policies.specs.declared.MaybeAge.the-variants as HA
+use Rattle.policies.specs.declared.Seen.{Seen}
+use Rattle.policies.specs.declared.Step.{Step}
+use Rattle.policies.specs.declared.Step.the-variants.{Next, Pattern, Broken}
+use Rattle.policies.specs.declared.Turn.{Turn}
+use Rattle.policies.specs.declared.Turn.the-variants as T
+use Rattle.policies.specs.declared.Checked.{Checked}
+use Rattle.policies.specs.declared.Checked.the-variants.{Refused, Read}
+use Rattle.policies.specs.declared.PolicyAnswer.{PolicyAnswer}
+use Rattle.policies.specs.Texts.{utf8Two, utf8Three, utf8Four}
+use Rattle.policies.specs.Lines.{LF, CR, lines}
+use Rattle.policies.specs.Fields.{nameOf, valueOf, isLine, isNamed, anyNamed, patterns, isVersion, modeOf, isDigit, ageOf}
+use Rattle.policies.specs.Policy.{bodyFault, firstMode, firstAge, modeNumber, refused}
+
+-- how many bytes the sequence of 2 to 4 has that begins with these bytes, and 0 where none does
+unfoldable pub sizeOf : ℕ → ℕ → ℕ → ℕ → ℕ
+sizeOf a b c d = cond (utf8Two a b) 2 (cond (utf8Three a b c) 3 (cond (utf8Four a b c d) 4 0))
+
+-- the same of the bytes at the front of a list
+unfoldable pub sizeAt : List ℕ → ℕ
+sizeAt s = sizeOf (getD s 0 0) (getD s 1 0) (getD s 2 0) (getD s 3 0)
+
+-- the end of the text of a line that begins at `at` and whose LF, or the body's end, stands at e
+unfoldable pub textEnd : List ℕ → ℕ → ℕ → ℕ
+textEnd s at e = cond (ltb e (length s) && ltb at e && eqb (getD s (e - 1) 0) CR) (e - 1) e
+
+-- the kind of a field, by its name
+unfoldable pub kindOf : List ℕ → Kind
+kindOf name =
+    cond (sameBytes name (text "mx")) K.Mx
+    (cond (sameBytes name (text "version")) K.Version
+    (cond (sameBytes name (text "mode")) K.Mode
+    (cond (sameBytes name (text "max_age")) K.MaxAge
+    K.Other)))
+
+-- the value of a digit, and 10 for any other byte
+unfoldable pub digitOf : ℕ → ℕ
+digitOf b = cond (isDigit b) (b - code "0") 10
+
+-- a mode as the code holds it
+unfoldable pub heldMode : Option Mode → MaybeMode
+heldMode none = HM.Nothing
+heldMode (some mode) = HM.Is mode
+
+-- a max_age as the code holds it
+unfoldable pub heldAge : Option ℕ → MaybeAge
+heldAge none = HA.Nothing
+heldAge (some age) = HA.Is age
+
+-- it holds a mode
+unfoldable pub holdsMode : MaybeMode → Bool
+holdsMode HM.Nothing = false
+holdsMode (HM.Is mode) = true
+
+-- it holds a max_age
+unfoldable pub holdsAge : MaybeAge → Bool
+holdsAge HA.Nothing = false
+holdsAge (HA.Is age) = true
+
+-- what a version does to the fields r that were seen before it
+unfoldable pub takeVersion : Seen → List ℕ → Step
+takeVersion r v = cond (r .version) (Next r) (cond (isVersion v) (Next (record { version = true; mode = r .mode; age = r .age })) (Broken C.Version))
+
+-- the same of a first mode
+unfoldable pub newMode : Seen → Option Mode → Step
+newMode r none = Broken C.Mode
+newMode r (some mode) = Next (record { version = r .version; mode = HM.Is mode; age = r .age })
+
+-- the same of any mode
+unfoldable pub takeMode : Seen → List ℕ → Step
+takeMode r v = cond (holdsMode (r .mode)) (Next r) (newMode r (modeOf v))
+
+-- the same of a first max_age
+unfoldable pub newAge : Seen → Option ℕ → Step
+newAge r none = Broken C.MaxAge
+newAge r (some age) = Next (record { version = r .version; mode = r .mode; age = HA.Is age })
+
+-- the same of any max_age
+unfoldable pub takeAge : Seen → List ℕ → Step
+takeAge r v = cond (holdsAge (r .age)) (Next r) (newAge r (ageOf v))
+
+-- the same of an mx
+unfoldable pub takeMx : List ℕ → Step
+takeMx v = cond (isPattern v) Pattern (Broken C.Mx)
+
+-- the same of a field of each kind
+unfoldable pub takeField : Seen → Kind → List ℕ → Step
+takeField r K.Version v = takeVersion r v
+takeField r K.Mode v = takeMode r v
+takeField r K.MaxAge v = takeAge r v
+takeField r K.Mx v = takeMx v
+takeField r K.Other v = Next r
+
+-- the same of a line
+unfoldable pub takeLine : Seen → List ℕ → Step
+takeLine r l = cond (isLine l) (takeField r (kindOf (nameOf l)) (valueOf l)) (Broken C.Form)
+
+-- where the LF stands that ends the line at `at`, or the body ends
+unfoldable pub lineEnd : List ℕ → ℕ → ℕ
+lineEnd s at = at + indexOf LF (drop at s)
+
+-- the line that begins at `at`
+unfoldable pub lineAt : List ℕ → ℕ → List ℕ
+lineAt s at = take (textEnd s at (lineEnd s at) - at) (drop at s)
+
+-- what a line does, with the place where the next one begins
+unfoldable pub placed : Step → ℕ → Turn
+placed (Next r) next = T.Next r next
+placed Pattern next = T.Pattern next
+placed (Broken cause) next = T.Broken cause
+
+-- the same of the line that begins at `at`
+unfoldable pub turnAt : Seen → List ℕ → ℕ → Turn
+turnAt r s at = placed (takeLine r (lineAt s at)) (lineEnd s at + 1)
+
+-- the fields of the lines
+unfoldable pub seenIn : List (List ℕ) → Seen
+seenIn ls = record { version = anyNamed (text "version") ls; mode = heldMode (firstMode ls); age = heldAge (firstAge ls) }
+
+-- a fault, or the fields and the number of patterns
+unfoldable pub outcome : Seen → ℕ → Option Fault → Checked
+outcome r m none = Read r m
+outcome r m (some fault) = Refused fault
+
+-- the first fault of a body, or its fields and the number of its patterns
+unfoldable pub checked : List ℕ → Checked
+checked s = outcome (seenIn (lines s)) (length (patterns (lines s))) (bodyFault s)
+
+-- the answer to a policy with m patterns
+unfoldable pub accepted : Mode → ℕ → ℕ → PolicyAnswer
+accepted mode age m = record { number = 7; mode = modeNumber mode; lifetime = cappedAge age; «mx_count» = m }
+
+-- m patterns are enough for the mode
+unfoldable pub enough : Mode → ℕ → Bool
+enough M.Enforce m = ltb 0 m
+enough M.Testing m = ltb 0 m
+enough M.None m = true
+
+-- the answer to fields, held or not, and m patterns
+unfoldable pub answerWith : Bool → MaybeMode → MaybeAge → ℕ → PolicyAnswer
+answerWith false mode age m = refused 52
+answerWith true HM.Nothing age m = refused 52
+answerWith true (HM.Is mode) HA.Nothing m = refused 52
+answerWith true (HM.Is mode) (HA.Is age) m = cond (enough mode m) (accepted mode age m) (refused 52)
+
+-- the same of all fields together
+unfoldable pub answerOf : Seen → ℕ → PolicyAnswer
+answerOf r m = answerWith (r .version) (r .mode) (r .age) m
+
+-- an mx line whose pattern covers the host
+unfoldable pub lineCovers : List ℕ → List ℕ → Bool
+lineCovers host l = isNamed (text "mx") l && coversName (valueOf l) host

@@ -1,0 +1,550 @@
+// The policy body (RFC 8461, 3.2).
+ghost use mathlib.Core.Path.{_≡_};
+ghost use mathlib.Core.Bool.{true};
+ghost use Prim.Native.Nat.{_+_, _<_, _≤_};
+ghost use lib.ListN.{length, drop};
+ghost use Rattle.lists.specs.Bytes.{all};
+ghost use Rattle.lists.specs.Split.{indexOf};
+ghost use Rattle.fields.specs.declared.Field.{Field};
+ghost use Rattle.fields.specs.Name.{hasName, fieldAt};
+ghost use Rattle.policies.specs.Texts.{printable, isText, isValue};
+ghost use Rattle.policies.specs.declared.Checked.{Checked};
+ghost use Rattle.policies.specs.Fields.{modeOf, ageOf, valueOf};
+ghost use Rattle.policies.specs.Policy.{modeNumber, refused, policyAnswer, someMatches, patternsOf};
+ghost use Rattle.policies.specs.Reader.{textEnd, kindOf, digitOf, heldMode, heldAge, takeVersion, takeMode, takeAge, takeMx, takeField, takeLine, turnAt, checked, enough, accepted, answerOf, lineCovers};
+use fields::Field;
+
+mod utf8;
+
+// The answer numbers.
+pub const ACCEPTED: u64 = 7;
+
+pub const TOO_LONG: u64 = 50;
+
+pub const MALFORMED: u64 = 51;
+
+pub const INCOMPLETE: u64 = 52;
+
+// The numbers of the modes.
+pub const ENFORCE: u64 = 1;
+
+pub const TESTING: u64 = 2;
+
+pub const NONE: u64 = 3;
+
+// The most bytes of a body.
+pub const LONGEST_BODY: usize = 65536;
+
+// The answer to a policy body: on 7 its mode, its lifetime in seconds and the count of its mx lines; on a refusal zeros.
+#[repr(C)]
+pub struct PolicyAnswer {
+    pub number: u64,
+    pub mode: u64,
+    pub lifetime: u64,
+    pub mx_count: u64,
+}
+
+// The mode of a policy.
+pub enum Mode {
+    Enforce,
+    Testing,
+    None,
+}
+
+// What is wrong with a line: its form, or what its field holds.
+pub enum Cause {
+    Form,
+    Version,
+    Mode,
+    MaxAge,
+    Mx,
+}
+
+// The first fault of a body: its cause, its line, counted from 1, and the place where that line begins.
+pub struct Fault {
+    pub cause: Cause,
+    pub line: u64,
+    pub offset: u64,
+}
+
+// A mode, or none.
+enum MaybeMode {
+    Is(Mode),
+    Nothing,
+}
+
+// A max_age, or none.
+enum MaybeAge {
+    Is(u64),
+    Nothing,
+}
+
+// The fields that are read, by their names.
+enum Kind {
+    Version,
+    Mode,
+    MaxAge,
+    Mx,
+    Other,
+}
+
+// The fields seen so far: the first of each name counts.
+struct Seen {
+    version: bool,
+    mode: MaybeMode,
+    age: MaybeAge,
+}
+
+// What a line does: it leaves these fields, it has a pattern, or it has a fault.
+enum Step {
+    Next(Seen),
+    Pattern,
+    Broken(Cause),
+}
+
+// The same with the place where the next line begins.
+enum Turn {
+    Next(Seen, usize),
+    Pattern(usize),
+    Broken(Cause),
+}
+
+// A whole body: its first fault, or its fields and the count of its patterns.
+enum Checked {
+    Refused(Fault),
+    Read(Seen, u64),
+}
+
+// The kind of a field, by its name.
+fn kind_of(name: &[u8]) -> Kind
+    ensures { λ r. ⌜ r ≡ kindOf (now (name .entry)) ⌝ }
+{
+    let mx = lists::equal(name, b"mx");
+    if mx {
+        return Kind::Mx;
+    }
+    let version = lists::equal(name, b"version");
+    if version {
+        return Kind::Version;
+    }
+    let mode = lists::equal(name, b"mode");
+    if mode {
+        return Kind::Mode;
+    }
+    let age = lists::equal(name, b"max_age");
+    if age {
+        return Kind::MaxAge;
+    }
+    Kind::Other
+}
+
+// The mode that a value names.
+fn mode_of(v: &[u8]) -> MaybeMode
+    ensures { λ r. ⌜ r ≡ heldMode (modeOf (now (v .entry))) ⌝ }
+{
+    let enforce = lists::equal(v, b"enforce");
+    if enforce {
+        return MaybeMode::Is(Mode::Enforce);
+    }
+    let testing = lists::equal(v, b"testing");
+    if testing {
+        return MaybeMode::Is(Mode::Testing);
+    }
+    let none = lists::equal(v, b"none");
+    if none {
+        return MaybeMode::Is(Mode::None);
+    }
+    MaybeMode::Nothing
+}
+
+// The value of a digit, and 10 for any other byte.
+fn digit_of(b: u8) -> u64
+    ensures { λ r. ⌜ r ≡ digitOf b ⌝ }
+{
+    let digit = lists::is_within(b'0', b'9', b);
+    if !digit {
+        return 10;
+    }
+    if b < b'0' {
+        return 10;
+    }
+    (b - b'0') as u64
+}
+
+// The max_age that 1 to 10 digits write.
+fn age_of(v: &[u8]) -> MaybeAge
+    ensures { λ r. ⌜ r ≡ heldAge (ageOf (now (v .entry))) ⌝ }
+{
+    if v.len() < 1 {
+        return MaybeAge::Nothing;
+    }
+    if 10 < v.len() {
+        return MaybeAge::Nothing;
+    }
+    let mut age: u64 = 0;
+    let mut i = 0;
+    while i < v.len() {
+        let d = digit_of(v[i]);
+        if 9 < d {
+            return MaybeAge::Nothing;
+        }
+        age = age * 10 + d;
+        i += 1;
+    }
+    MaybeAge::Is(age)
+}
+
+// The first version must be `STSv1`; later ones are not looked at.
+fn take_version(seen: Seen, v: &[u8]) -> Step
+    ensures { λ r. ⌜ r ≡ takeVersion seen (now (v .entry)) ⌝ }
+{
+    if seen.version {
+        return Step::Next(seen);
+    }
+    let good = lists::equal(v, b"STSv1");
+    if !good {
+        return Step::Broken(Cause::Version);
+    }
+    let mode = seen.mode;
+    let age = seen.age;
+    Step::Next(Seen {
+        version: true,
+        mode: mode,
+        age: age,
+    })
+}
+
+// The first mode must be a mode; later ones are not looked at.
+fn take_mode(seen: Seen, v: &[u8]) -> Step
+    ensures { λ r. ⌜ r ≡ takeMode seen (now (v .entry)) ⌝ }
+{
+    let had = seen.mode;
+    if let MaybeMode::Is(_) = had {
+        return Step::Next(seen);
+    }
+    let mode = mode_of(v);
+    let MaybeMode::Is(_) = mode else {
+        return Step::Broken(Cause::Mode);
+    };
+    let version = seen.version;
+    let age = seen.age;
+    Step::Next(Seen {
+        version: version,
+        mode: mode,
+        age: age,
+    })
+}
+
+// The first max_age must be a max_age; later ones are not looked at.
+fn take_age(seen: Seen, v: &[u8]) -> Step
+    ensures { λ r. ⌜ r ≡ takeAge seen (now (v .entry)) ⌝ }
+{
+    let had = seen.age;
+    if let MaybeAge::Is(_) = had {
+        return Step::Next(seen);
+    }
+    let age = age_of(v);
+    let MaybeAge::Is(_) = age else {
+        return Step::Broken(Cause::MaxAge);
+    };
+    let version = seen.version;
+    let mode = seen.mode;
+    Step::Next(Seen {
+        version: version,
+        mode: mode,
+        age: age,
+    })
+}
+
+// Every mx must be a pattern.
+fn take_mx(v: &[u8]) -> Step
+    ensures { λ r. ⌜ r ≡ takeMx (now (v .entry)) ⌝ }
+{
+    let good = names::is_pattern(v);
+    if !good {
+        return Step::Broken(Cause::Mx);
+    }
+    Step::Pattern
+}
+
+// What a field does to the fields seen so far.
+fn take_field(seen: Seen, kind: Kind, v: &[u8]) -> Step
+    ensures { λ r. ⌜ r ≡ takeField seen kind (now (v .entry)) ⌝ }
+{
+    match kind {
+        Kind::Version => take_version(seen, v),
+        Kind::Mode => take_mode(seen, v),
+        Kind::MaxAge => take_age(seen, v),
+        Kind::Mx => take_mx(v),
+        Kind::Other => Step::Next(seen),
+    }
+}
+
+// The value of a line whose first colon stands at `colon`.
+fn value_of(line: &[u8], colon: usize) -> &[u8]
+    requires { ⌜ (colon ≡ indexOf 58 (now line)) × (colon < length (now line)) ⌝ }
+    ensures { λ r. ⌜ now r ≡ valueOf (now (line .entry)) ⌝ }
+{
+    let from = fields::past_blanks(line, colon + 1);
+    let rest = &line[from..];
+    let to = fields::before_blanks(rest);
+    &rest[0..to]
+}
+
+// Whether v is a value. Where its bytes are known to be a text, only its ends are looked at.
+fn is_value(v: &[u8], known: bool) -> bool
+    requires { ⌜ (known ≡ true → isText (now v) ≡ true) ⌝ }
+    ensures { λ r. ⌜ r ≡ isValue (now (v .entry)) ⌝ }
+{
+    if v.len() < 1 {
+        return false;
+    }
+    if v[0] == b' ' {
+        return false;
+    }
+    if v[v.len() - 1] == b' ' {
+        return false;
+    }
+    if known {
+        return true;
+    }
+    utf8::is_text(v)
+}
+
+// What a line does whose name ends at `colon`; `known` says whether all bytes after the colon are printable.
+fn take_value(seen: Seen, line: &[u8], colon: usize, known: bool) -> Step
+    requires { ⌜ (hasName 58 (now line) ≡ true) × (colon ≡ indexOf 58 (now line)) × (colon < length (now line)) × (known ≡ all printable (drop (colon + 1) (now line))) ⌝ }
+    ensures { λ r. ⌜ r ≡ takeLine seen (now (line .entry)) ⌝ }
+{
+    let v = value_of(line, colon);
+    let good = is_value(v, known);
+    if !good {
+        return Step::Broken(Cause::Form);
+    }
+    let kind = kind_of(&line[0..colon]);
+    take_field(seen, kind, v)
+}
+
+// The end of the text of the line that begins at `at` and whose LF, or the body's end, stands at `end`: a CR before the LF is no part of it.
+fn text_end(s: &[u8], at: usize, end: usize) -> usize
+    ensures { λ r. ⌜ r ≡ textEnd (now (s .entry)) at end ⌝ }
+{
+    if s.len() <= end {
+        return end;
+    }
+    if end <= at {
+        return end;
+    }
+    let last = end - 1;
+    if s[last] == b'\r' {
+        return last;
+    }
+    end
+}
+
+// The place of the first LF of s at or after `from`, or the end of s.
+fn line_end(s: &[u8], from: usize) -> usize
+    requires { ⌜ from ≤ length (now s) ⌝ }
+    ensures { λ r. ⌜ (r ≡ from + indexOf 10 (drop from (now (s .entry)))) × (r ≤ length (now (s .entry))) ⌝ }
+{
+    lists::find(s, b'\n', from)
+}
+
+// What the line does that begins at `at` and whose name ends at `colon`. Its other bytes are read once where they are printable.
+fn take_named(seen: Seen, s: &[u8], at: usize, colon: usize) -> Turn
+    requires { ⌜ (Field.Named colon ≡ fieldAt 58 (now s) at) × (at ≤ colon) × (colon < length (now s)) × (length (now s) ≤ 65536) ⌝ }
+    ensures { λ r. ⌜ r ≡ turnAt seen (now (s .entry)) at ⌝ }
+{
+    let printable = utf8::printable_end(s, colon + 1);
+    let end = line_end(s, printable);
+    let text = text_end(s, at, end);
+    let step = take_value(seen, &s[at..text], colon - at, text <= printable);
+    match step {
+        Step::Broken(cause) => Turn::Broken(cause),
+        Step::Pattern => Turn::Pattern(end + 1),
+        Step::Next(next) => Turn::Next(next, end + 1),
+    }
+}
+
+// What the line that begins at `at` does to the fields seen so far.
+fn take_line(seen: Seen, s: &[u8], at: usize) -> Turn
+    requires { ⌜ (at < length (now s)) × (length (now s) ≤ 65536) ⌝ }
+    ensures { λ r. ⌜ r ≡ turnAt seen (now (s .entry)) at ⌝ }
+{
+    let field = fields::name_end(s, at, b':');
+    let Field::Named(colon) = field else {
+        return Turn::Broken(Cause::Form);
+    };
+    take_named(seen, s, at, colon)
+}
+
+// A fault in the line that begins at `at` and has n lines before it.
+fn faulty(cause: Cause, n: u64, at: usize) -> Checked
+    requires { ⌜ n ≤ 65536 ⌝ }
+    ensures { λ r. ⌜ r ≡ Checked.Refused (record { cause = cause; line = n + 1; offset = at }) ⌝ }
+{
+    Checked::Refused(Fault {
+        cause: cause,
+        line: n + 1,
+        offset: at as u64,
+    })
+}
+
+// The first fault of a body, or its fields.
+fn check(s: &[u8]) -> Checked
+    requires { ⌜ length (now s) ≤ 65536 ⌝ }
+    ensures { λ r. ⌜ r ≡ checked (now (s .entry)) ⌝ }
+{
+    if s.len() == 0 {
+        return faulty(Cause::Form, 0, 0);
+    }
+    let mut seen = Seen {
+        version: false,
+        mode: MaybeMode::Nothing,
+        age: MaybeAge::Nothing,
+    };
+    let mut count: u64 = 0;
+    let mut n: u64 = 0;
+    let mut at = 0;
+    while at < s.len() {
+        let turn = take_line(seen, s, at);
+        match turn {
+            Turn::Broken(cause) => return faulty(cause, n, at),
+            Turn::Pattern(next) => {
+                count += 1;
+                n += 1;
+                at = next;
+            }
+            Turn::Next(left, next) => {
+                seen = left;
+                n += 1;
+                at = next;
+            }
+        }
+    }
+    Checked::Read(seen, count)
+}
+
+// A refusal.
+fn refusal(number: u64) -> PolicyAnswer
+    ensures { λ r. ⌜ r ≡ refused number ⌝ }
+{
+    PolicyAnswer {
+        number: number,
+        mode: 0,
+        lifetime: 0,
+        mx_count: 0,
+    }
+}
+
+// The number of a mode.
+fn mode_number(mode: Mode) -> u64
+    ensures { λ r. ⌜ r ≡ modeNumber mode ⌝ }
+{
+    match mode {
+        Mode::Enforce => ENFORCE,
+        Mode::Testing => TESTING,
+        Mode::None => NONE,
+    }
+}
+
+// Whether so many patterns are enough for the mode.
+fn is_enough(mode: Mode, count: u64) -> bool
+    ensures { λ r. ⌜ r ≡ enough mode count ⌝ }
+{
+    match mode {
+        Mode::Enforce => 0 < count,
+        Mode::Testing => 0 < count,
+        Mode::None => true,
+    }
+}
+
+// The answer to a policy.
+fn acceptance(mode: Mode, age: u64, count: u64) -> PolicyAnswer
+    ensures { λ r. ⌜ r ≡ accepted mode age count ⌝ }
+{
+    let number = mode_number(mode);
+    let lifetime = clock::capped(age);
+    let seconds = lifetime.0;
+    PolicyAnswer {
+        number: ACCEPTED,
+        mode: number,
+        lifetime: seconds,
+        mx_count: count,
+    }
+}
+
+// The answer to a body without a fault, by its fields and the count of its patterns.
+fn answer(seen: Seen, count: u64) -> PolicyAnswer
+    ensures { λ r. ⌜ r ≡ answerOf seen count ⌝ }
+{
+    if !seen.version {
+        return refusal(INCOMPLETE);
+    }
+    let first_mode = seen.mode;
+    let MaybeMode::Is(mode) = first_mode else {
+        return refusal(INCOMPLETE);
+    };
+    let first_age = seen.age;
+    let MaybeAge::Is(age) = first_age else {
+        return refusal(INCOMPLETE);
+    };
+    let good = is_enough(mode, count);
+    if !good {
+        return refusal(INCOMPLETE);
+    }
+    acceptance(mode, age, count)
+}
+
+// Reads a policy body: 7 with its mode, lifetime and count of mx lines, or 50, 51, 52.
+pub fn read_policy(body: &[u8]) -> PolicyAnswer
+    ensures { λ r. ⌜ r ≡ policyAnswer (now (body .entry)) ⌝ }
+{
+    if LONGEST_BODY < body.len() {
+        return refusal(TOO_LONG);
+    }
+    let read = check(body);
+    match read {
+        Checked::Refused(_) => refusal(MALFORMED),
+        Checked::Read(seen, count) => answer(seen, count),
+    }
+}
+
+// Whether the line is an mx line whose pattern covers the host.
+fn line_covers(line: &[u8], host: &[u8]) -> bool
+    ensures { λ r. ⌜ r ≡ lineCovers (now (host .entry)) (now (line .entry)) ⌝ }
+{
+    let colon = lists::find(line, b':', 0);
+    if line.len() <= colon {
+        return false;
+    }
+    let named = lists::equal(&line[0..colon], b"mx");
+    if !named {
+        return false;
+    }
+    names::covers(value_of(line, colon), host)
+}
+
+// Whether one of the body's patterns matches the host; the body may also be one that is refused.
+pub fn some_pattern_matches(body: &[u8], host: &[u8]) -> bool
+    ensures { λ r. ⌜ r ≡ someMatches (now (host .entry)) (patternsOf (now (body .entry))) ⌝ }
+{
+    let good = names::is_name(host);
+    if !good {
+        return false;
+    }
+    let mut at = 0;
+    while at < body.len() {
+        let end = line_end(body, at);
+        let text = text_end(body, at, end);
+        let hit = line_covers(&body[at..text], host);
+        if hit {
+            return true;
+        }
+        if body.len() <= end {
+            return false;
+        }
+        at = end + 1;
+    }
+    false
+}

@@ -1,0 +1,129 @@
+/*
+ * What a domain says of MTA-STS: reads its TXT records and its policy from files and prints what they say.
+ *
+ * Usage: discover RECORDS POLICY
+ * RECORDS has the TXT records of _mta-sts.DOMAIN, one a line; POLICY is the policy's body as it was fetched.
+ */
+#include <inttypes.h>
+#include <stdio.h>
+#include <stdlib.h>
+#include <string.h>
+
+#include "tweedstork.h"
+
+#define MOST_BYTES 100000
+
+/* Reads a whole file; -1 where it cannot be opened, or has more than fits. */
+static long read_file(const char *path, uint8_t *bytes)
+{
+    FILE *file = fopen(path, "rb");
+    if (file == NULL)
+        return -1;
+    size_t length = fread(bytes, 1, MOST_BYTES, file);
+    int whole = fgetc(file) == EOF && !ferror(file);
+    fclose(file);
+    return whole ? (long)length : -1;
+}
+
+/* A record's RDATA as DNS sends it: character strings of at most 255 bytes, each with its length before it. */
+static size_t put_rdata(uint8_t *rdata, const uint8_t *record, size_t length)
+{
+    size_t at = 0;
+    do {
+        size_t part = length < 255 ? length : 255;
+        rdata[at++] = (uint8_t)part;
+        memcpy(rdata + at, record, part);
+        at += part;
+        record += part;
+        length -= part;
+    } while (length > 0);
+    return at;
+}
+
+static const char *txt_words(uint64_t number)
+{
+    switch (number) {
+    case TWEEDSTORK_TXT_NO_CANDIDATE: return "there is no MTA-STS record";
+    case TWEEDSTORK_TXT_SEVERAL: return "there are several MTA-STS records";
+    case TWEEDSTORK_TXT_MALFORMED: return "the MTA-STS record is malformed";
+    case TWEEDSTORK_TXT_WIRE_FORM: return "the wire form is broken";
+    case TWEEDSTORK_TXT_OUTPUT_SHORT: return "the output is too short for the record";
+    default: return "unexpected answer";
+    }
+}
+
+static const char *policy_words(uint64_t number)
+{
+    switch (number) {
+    case TWEEDSTORK_POLICY_LONG: return "the policy has over 65,536 bytes";
+    case TWEEDSTORK_POLICY_MALFORMED: return "the policy is malformed";
+    case TWEEDSTORK_POLICY_INCOMPLETE: return "the policy lacks a required field";
+    default: return "unexpected answer";
+    }
+}
+
+static const char *mode_words(uint64_t mode)
+{
+    switch (mode) {
+    case TWEEDSTORK_ENFORCE: return "enforce";
+    case TWEEDSTORK_TESTING: return "testing";
+    case TWEEDSTORK_NONE: return "none";
+    default: return "unexpected mode";
+    }
+}
+
+static int show_records(const uint8_t *text, size_t length)
+{
+    static uint8_t rdatas[2 * MOST_BYTES], lengths[4 * MOST_BYTES], output[MOST_BYTES];
+    size_t rdatas_length = 0, records = 0, at = 0;
+
+    while (at < length) {
+        const uint8_t *end = memchr(text + at, '\n', length - at);
+        size_t stop = end == NULL ? length : (size_t)(end - text);
+        size_t rdata = put_rdata(rdatas + rdatas_length, text + at, stop - at);
+        lengths[records * 4] = (uint8_t)(rdata >> 24);
+        lengths[records * 4 + 1] = (uint8_t)(rdata >> 16);
+        lengths[records * 4 + 2] = (uint8_t)(rdata >> 8);
+        lengths[records * 4 + 3] = (uint8_t)rdata;
+        rdatas_length += rdata;
+        records++;
+        at = stop + 1;
+    }
+    struct tweedstork_txt_answer answer = tweedstork_read_txt(rdatas, rdatas_length, lengths, records * 4, output, sizeof output);
+    if (answer.number != TWEEDSTORK_TXT_ACCEPTED) {
+        printf("records: answer %" PRIu64 ": %s\n", answer.number, txt_words(answer.number));
+        return 1;
+    }
+    printf("records: answer %" PRIu64 ": an MTA-STS record with the id %.*s\n", answer.number, (int)answer.id_length, (const char *)output + answer.id_start);
+    return 0;
+}
+
+static int show_policy(const uint8_t *body, size_t length)
+{
+    struct tweedstork_policy_answer answer = tweedstork_read_policy(body, length);
+    if (answer.number != TWEEDSTORK_POLICY_ACCEPTED) {
+        printf("policy: answer %" PRIu64 ": %s\n", answer.number, policy_words(answer.number));
+        return 1;
+    }
+    printf("policy: answer %" PRIu64 ": mode %s, for %" PRIu64 " seconds, with %" PRIu64 " mx patterns\n", answer.number, mode_words(answer.mode), answer.lifetime, answer.mx_count);
+    return 0;
+}
+
+int main(int argc, char **argv)
+{
+    static uint8_t bytes[MOST_BYTES];
+    if (argc != 3) {
+        fprintf(stderr, "usage: discover RECORDS POLICY\n");
+        return 2;
+    }
+    for (int i = 1; i < 3; i++) {
+        long length = read_file(argv[i], bytes);
+        if (length < 0) {
+            fprintf(stderr, "discover: cannot read %s (at most %d bytes)\n", argv[i], MOST_BYTES);
+            return 2;
+        }
+        if ((i == 1 ? show_records : show_policy)(bytes, (size_t)length) != 0)
+            return 1;
+    }
+    return 0;
+}
