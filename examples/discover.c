@@ -119,6 +119,7 @@ int main(int argc, char **argv)
     for (int i = 1; i < 3; i++) {
         long length = read_file(argv[i], bytes);
         if (length < 0) {
+            fflush(stdout);
             fprintf(stderr, "discover: cannot read %s (at most %d bytes)\n", argv[i], MOST_BYTES);
             return 2;
         }

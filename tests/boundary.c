@@ -140,7 +140,8 @@ static void policies(void)
 {
     static const char body[] = "version: STSv1\r\nmode: enforce\r\nmx: mail.example.com\r\nmx: *.example.net\r\nmax_age: 604800";
     read_policy("a policy", body, sizeof body - 1, TWEEDSTORK_POLICY_ACCEPTED, TWEEDSTORK_ENFORCE, 604800, 2);
-    read_policy("a policy cut short", body, sizeof body - 1 - 16, TWEEDSTORK_POLICY_INCOMPLETE, 0, 0, 0);
+    read_policy("a policy without its last line", body, sizeof body - 1 - 15, TWEEDSTORK_POLICY_INCOMPLETE, 0, 0, 0);
+    read_policy("a policy cut inside a line end", body, sizeof body - 1 - 16, TWEEDSTORK_POLICY_MALFORMED, 0, 0, 0);
     read_policy("no bytes, as NULL", NULL, 0, TWEEDSTORK_POLICY_MALFORMED, 0, 0, 0);
     read_policy("65,536 bytes", NULL, 65536, TWEEDSTORK_POLICY_MALFORMED, 0, 0, 0);
     read_policy("65,537 bytes", NULL, 65537, TWEEDSTORK_POLICY_LONG, 0, 0, 0);
