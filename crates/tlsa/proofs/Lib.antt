@@ -1,4 +1,5 @@
 pub mod Record
 pub mod Answer
 pub mod Meaning
+pub mod Written
 mod Worked

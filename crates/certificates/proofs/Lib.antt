@@ -1,0 +1,10 @@
+pub mod Reading
+pub mod Matching
+pub mod Passing
+pub mod Naming
+pub mod Checks
+pub mod Limits
+pub mod Safety
+pub mod Shift
+pub mod Written
+mod Worked

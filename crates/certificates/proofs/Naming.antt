@@ -1,0 +1,94 @@
+-- The ways out of the functions on the leaf's names. Assumes nothing.
+use Prim.Native.Nat.{ℕ}
+use mathlib.Core.Path.{_≡_, refl, sym, _∙_}
+use mathlib.Core.Bool.{Bool, true, false, or-false}
+use mathlib.Core.List.{List, [], _∷_}
+use mathlib.Core.Option.{Option}
+use native.Mathlib.Omega.{arith}
+use lib.ListN.{length}
+use borrow.Author.Needs.{needs}
+use borrow.Author.Tests.{not-true, not-false}
+use Rattle.lists.specs.Bytes.{any}
+use Rattle.names.specs.Name.{isName}
+use Rattle.names.specs.Scan.{coversName}
+use Rattle.names.proofs.Cover.{matches-covers}
+use Rattle.names.proofs.Match.{no-name}
+use Rattle.numbers.specs.Pieces.{cut}
+use Rattle.certificates.specs.Facts.{commonNameOf}
+use Rattle.certificates.specs.Checks.{references, leafNames, someMatches}
+use Rattle.certificates.specs.declared.Origin.{Origin}
+use Rattle.certificates.specs.declared.Origin.the-variants.{SecureMx, InsecureMx, NoMx}
+
+-- for a name n, that some text covers it says that some text matches it; what is no name is matched by none
+covered : (ids : List (List ℕ)) (n : List ℕ) → isName n ≡ true → any (λ (id : List ℕ). coversName id n) ids ≡ someMatches ids n
+unfolding any
+covered [] n h = refl
+covered (id ∷ ids) n h = rw (matches-covers id n h, covered ids n h)
+
+unmatched : (ids : List (List ℕ)) (n : List ℕ) → isName n ≡ false → someMatches ids n ≡ false
+unfolding any
+unmatched [] n h = refl
+unmatched (id ∷ ids) n h = rw (sym (no-name id n (isName n) refl h), unmatched ids n h)
+
+-- `has_dns_id`: b is what `is_name` gave, r what `some_covers` gave
+module _ (ids : List (List ℕ)) (n : List ℕ) (b : Bool) (be : b ≡ isName n) where
+  pub id-no-name : b ≡ false → false ≡ someMatches ids n
+  id-no-name f = sym (unmatched ids n (sym be ∙ f))
+
+  pub id-covers : b ≡ true → (r : Bool) → r ≡ any (λ (id : List ℕ). coversName id n) ids → r ≡ someMatches ids n
+  id-covers t r e = e ∙ covered ids n (sym be ∙ t)
+
+pub ruleset id-laws = (id-no-name, id-covers, not-true, not-false, needs)
+
+-- the names that count, where some DNS-ID is listed and where none is
+some-listed : (s ns : List ℕ) (common : Option (List ℕ)) → (length ns ≡ 0 → ⊥) → leafNames (cut s ns) common ≡ cut s ns
+unfolding leafNames cut
+some-listed s [] common h = absurd (h refl)
+some-listed s (n ∷ ns) common h = refl
+
+none-listed : (s ns : List ℕ) (common : Option (List ℕ)) → length ns ≡ 0 → leafNames (cut s ns) common ≡ leafNames [] common
+unfolding cut
+none-listed s [] common h = refl
+none-listed s (n ∷ ns) common h = absurd (omega arith)
+
+-- `leaf_names`: n is what `count` gave, r what the last call gave; p is the test of a name
+module _ (p : List ℕ → Bool) (s ns common : List ℕ) (given : Bool) (n : ℕ) (counted : n ≡ length ns) where
+  pub leaf-ids : (n ≡ 0 → ⊥) → (r : Bool) → r ≡ any p (cut s ns) → r ≡ any p (leafNames (cut s ns) (commonNameOf given common))
+  leaf-ids z r e = rw (some-listed s ns (commonNameOf given common) (λ q. z (counted ∙ q))) e
+
+  module _ (z : n ≡ 0) where
+    pub leaf-nameless : given ≡ false → false ≡ any p (leafNames (cut s ns) (commonNameOf given common))
+    unfolding leafNames any
+    leaf-nameless h = rw (none-listed s ns (commonNameOf given common) (sym counted ∙ z), h)
+
+    pub leaf-common : given ≡ true → (r : Bool) → r ≡ p common → r ≡ any p (leafNames (cut s ns) (commonNameOf given common))
+    unfolding leafNames any
+    leaf-common h r e = rw (none-listed s ns (commonNameOf given common) (sym counted ∙ z), h) (e ∙ sym (or-false (p common)))
+
+pub ruleset leaf-names-laws = (leaf-ids, leaf-nameless, leaf-common, not-true, not-false, needs)
+
+-- `names_reference`: f and r are what the calls gave, p is the test of a reference
+first-hit : (p : List ℕ → Bool) (origin : Origin) (domain next : List ℕ) → p domain ≡ true → any p (references origin domain next) ≡ true
+unfolding references any
+first-hit p SecureMx domain next h = rw h
+first-hit p InsecureMx domain next h = rw h
+first-hit p NoMx domain next h = rw h
+
+module _ (p : List ℕ → Bool) (origin : Origin) (domain next : List ℕ) (f : Bool) (fe : f ≡ p domain) where
+  pub reference-domain : f ≡ true → true ≡ any p (references origin domain next)
+  reference-domain t = sym (first-hit p origin domain next (sym fe ∙ t))
+
+  module _ (ff : f ≡ false) where
+    pub reference-secure : origin ≡ Origin.SecureMx → (r : Bool) → r ≡ p next → r ≡ any p (references origin domain next)
+    unfolding references any
+    reference-secure h r e = rw (h, sym fe ∙ ff, or-false (p next)) e
+
+    pub reference-insecure : origin ≡ Origin.InsecureMx → false ≡ any p (references origin domain next)
+    unfolding references any
+    reference-insecure h = rw (h, sym fe ∙ ff)
+
+    pub reference-no-mx : origin ≡ Origin.NoMx → (r : Bool) → r ≡ p next → r ≡ any p (references origin domain next)
+    unfolding references any
+    reference-no-mx h r e = rw (h, sym fe ∙ ff, or-false (p next)) e
+
+pub ruleset reference-laws = (reference-domain, reference-secure, reference-insecure, reference-no-mx, not-true, not-false, needs)

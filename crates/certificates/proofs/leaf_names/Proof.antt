@@ -1,0 +1,27 @@
+-- `certificates::leaf_names` meets its contract. Assumes nothing.
+use Rattle.certificates.proofs.Naming.{leaf-names-laws}
+use Rattle.certificates.proofs.leaf_names.Statement.{statement}
+use Rattle.certificates.proofs.leaf_names.Tie as tie
+
+count-requires : tie.Need-count-requires
+count-requires c κs = search leaf-names-laws
+
+has-dns-id-requires : tie.Need-has-dns-id-requires
+has-dns-id-requires c κs = search leaf-names-laws
+
+returns : tie.Need-returns
+returns c = search leaf-names-laws
+
+returns-2 : tie.Need-returns-2
+returns-2 c = search leaf-names-laws
+
+matches-requires : tie.Need-matches-requires
+matches-requires c κs = search leaf-names-laws
+
+returns-3 : tie.Need-returns-3
+returns-3 c = search leaf-names-laws
+
+pub leaf-names-spec : {M : Type 1} → statement M
+leaf-names-spec =
+    tie.close
+    (tie.spec count-requires has-dns-id-requires returns returns-2 matches-requires returns-3)

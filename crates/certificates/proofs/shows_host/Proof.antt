@@ -1,0 +1,23 @@
+-- `certificates::shows_host` meets its contract. Assumes nothing.
+use Rattle.certificates.proofs.Checks.{host-laws}
+use Rattle.certificates.proofs.shows_host.Statement.{statement}
+use Rattle.certificates.proofs.shows_host.Tie as tie
+
+returns : tie.Need-returns
+returns c = search host-laws
+
+count-requires : tie.Need-count-requires
+count-requires c κs = search host-laws
+
+returns-2 : tie.Need-returns-2
+returns-2 c = search host-laws
+
+has-dns-id-requires : tie.Need-has-dns-id-requires
+has-dns-id-requires c κs = search host-laws
+
+returns-3 : tie.Need-returns-3
+returns-3 c = search host-laws
+
+pub shows-host-spec : {M : Type 1} → statement M
+shows-host-spec =
+    tie.close (tie.spec returns count-requires returns-2 has-dns-id-requires returns-3)

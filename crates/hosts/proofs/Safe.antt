@@ -1,0 +1,140 @@
+-- What every delivery has behind it: nothing that was needed is let off, and nothing rescues what did not pass. Assumes nothing.
+use Prim.Native.Nat.{ℕ}
+use mathlib.Core.Path.{_≡_, refl, sym, _∙_, subst}
+use mathlib.Core.Bool.{Bool, true, false, not, cond, _&&_, _||_}
+use mathlib.Core.List.{List, [], _∷_}
+use mathlib.Core.Logic.{_⊎_, inl, inr}
+use Rattle.lists.specs.Bytes.{within, any}
+use Rattle.lists.proofs.Bools.{apart}
+use Rattle.tlsa.specs.declared.Address.{Address}
+use Rattle.tlsa.specs.declared.Address.the-variants.{NoAliasSecure, NoAliasInsecure, AliasSecure, AliasFirstStepSecure, AliasFirstStepInsecure, Failed, NoAddress}
+use Rattle.tlsa.specs.Address.{TlsaName, expandedName, hostName, names, namesToTry}
+use Rattle.tlsa.specs.Record.{usable}
+use Rattle.tlsa.specs.Answer.{Answer, secure, insecure, absent, failed, secureRecords, readOf}
+use Rattle.certificates.specs.Checks.{references, danePasses}
+use Rattle.hosts.specs.Facts.{Base, Handshake, established, Place, first, second, tlsa, Full, value}
+use Rattle.hosts.specs.Facts as F
+use Rattle.hosts.specs.Tree.{Rules, verdictOf, reached}
+use Rattle.hosts.specs.Rules.{needsMtaSts, isListed, mtaStsPasses, Taken, nothing, set, needs, isTls, needsDane, needsAnything, takenPasses, lastVerdict, shaken, connect, domainOf, heed, seek, start, rules}
+use Rattle.hosts.specs.Arguments.{Arguments, baseOf}
+use Rattle.hosts.specs.Call.{hostAnswer}
+use Rattle.hosts.specs.Demands.{IsFull, fullOf, answersAt, noneUsable, reachedAnswers}
+use Rattle.hosts.proofs.Logic.{by-cond}
+use Rattle.hosts.proofs.Reading.{authentication-is, tls-is, by-answer}
+use Rattle.hosts.proofs.FullSets.{full-number}
+use Rattle.hosts.proofs.Second.{quiet-connect}
+
+-- deliver: 1 to 5
+abbrev pub delivers : ℕ → Bool
+delivers n = within 1 5 n
+
+-- the last verdict delivers only where what was needed passes
+last-safe : (n e d s : Bool) → delivers (lastVerdict n e d s) ≡ true → (e ≡ true → s ≡ true) × (n ≡ true → d ≡ true)
+last-safe true true true true h = (λ z. refl, λ z. refl)
+last-safe true true true false h = apart h
+last-safe true true false s h = apart h
+last-safe true false true s h = (λ z. apart z, λ z. refl)
+last-safe true false false s h = apart h
+last-safe false true d true h = (λ z. refl, λ z. apart z)
+last-safe false true d false h = apart h
+last-safe false false d s h = (λ z. apart z, λ z. apart z)
+
+-- without TLS there is delivery only where nothing was needed: DANE (n) needs TLS (t), and MTA-STS (e) does
+none-needed : (n t e : Bool) (v : ℕ) → delivers v ≡ false → (n ≡ true → t ≡ true) → delivers (cond (t || e) v 1) ≡ true → (e ≡ true → ⊥) × (n ≡ true → ⊥)
+none-needed n true e v w k h = apart (sym w ∙ h)
+none-needed n false true v w k h = apart (sym w ∙ h)
+none-needed n false false v w k h = (λ z. apart z, λ z. apart (k z))
+
+module _ (b : Base) (f : Full) where
+  -- what is needed and passes, by what the set taken says of DANE
+  abbrev SafeWith : Taken → ℕ → Type 0
+  SafeWith s v = delivers v ≡ true → (needsMtaSts b ≡ true → mtaStsPasses b (f .presented) ≡ true) × (needsDane s ≡ true → takenPasses b s (f .presented) ≡ true)
+
+  module _ (s : Taken) (tls : needsDane s ≡ true → isTls (needs s) ≡ true) where
+    safe-none : (v : ℕ) → delivers v ≡ false → SafeWith s (cond (needsAnything b s) v 1)
+    safe-none v w h = let z = none-needed (needsDane s) (isTls (needs s)) (needsMtaSts b) v w tls h in (λ e. absurd (z .0 e), λ n. absurd (z .1 n))
+
+    neither : (n e : Bool) → (n || e) ≡ false → (e ≡ true → ⊥) × (n ≡ true → ⊥)
+    neither true e h = apart (sym h)
+    neither false true h = apart (sym h)
+    neither false false h = (λ z. apart z, λ z. apart z)
+
+    safe-shaken : (m : Handshake) → SafeWith s (verdictOf (shaken b s m) f)
+    safe-shaken established = by-cond (λ (t : Rules). SafeWith s (verdictOf t f)) (needsDane s || needsMtaSts b)
+        (λ e. last-safe (needsDane s) (needsMtaSts b) (takenPasses b s (f .presented)) (mtaStsPasses b (f .presented)))
+        (λ e h. let z = neither (needsDane s) (needsMtaSts b) e in (λ x. absurd (z .0 x), λ x. absurd (z .1 x)))
+    safe-shaken F.failed = safe-none 25 refl
+
+    safe-connect : SafeWith s (verdictOf (connect b s) f)
+    safe-connect = by-cond (λ (t : Rules). SafeWith s (verdictOf t f)) (f .offered) (λ e. safe-shaken (f .outcome)) (λ e. safe-none 24 refl)
+
+  -- an answer is one of some
+  abbrev pub IsAmong : Answer → List Answer → Type 0
+  IsAmong a [] = ⊥
+  IsAmong a (x ∷ l) = (x ≡ a) ⊎ IsAmong a l
+
+  -- a set that the rules read at the expanded name or at the host passes DANE
+  pub record DanePassed (l : List Answer) : Type 0 where
+    pub name : TlsaName
+    pub records : List (List ℕ)
+    pub read : IsAmong (secure records) l
+    pub passes : danePasses (references (b .origin) (domainOf b name) (b .nextHop)) records (f .presented) ≡ true
+
+  abbrev Safe : List Answer → Rules → Type 0
+  Safe l t = delivers (verdictOf t f) ≡ true → (needsMtaSts b ≡ true → mtaStsPasses b (f .presented) ≡ true) × (noneUsable l ≡ false → DanePassed l)
+
+  safe-nothing : Safe [] (connect b nothing)
+  unfolding any
+  safe-nothing h = (safe-connect nothing (λ z. z) h .0, λ e. apart (sym e))
+
+  later-dane : (a : Answer) (l : List Answer) → DanePassed l → DanePassed (a ∷ l)
+  later-dane a l d = record { name = d .name; records = d .records; read = inr (d .read); passes = d .passes }
+
+  usable-some : (x : Bool) → not (x || false) ≡ false → x ≡ true
+  usable-some true h = refl
+  usable-some false h = apart (sym h)
+
+  safe-taken : (n : TlsaName) (r : List ℕ) (rs : List (List ℕ)) → Safe (secure (r ∷ rs) ∷ []) (connect b (set (domainOf b n) (r ∷ rs)))
+  unfolding any
+  safe-taken n r rs h =
+      let s : Taken = set (domainOf b n) (r ∷ rs) in
+      let z = safe-connect s (λ x. tls-is r rs) h in
+      (z .0, λ e. record { name = n; records = r ∷ rs; read = inl refl; passes = z .1 (authentication-is (r ∷ rs) ∙ usable-some (any usable (r ∷ rs)) e) })
+
+  -- rules after the answer a
+  abbrev SafeAfter : Answer → Rules → Type 0
+  SafeAfter a t = Safe (a ∷ answersAt (reached t f) f) t
+
+  safe-heed : (n : TlsaName) (next : Rules) → Safe (answersAt (reached next f) f) next → (a : Answer) → SafeAfter a (heed b (domainOf b n) (secureRecords a) next (readOf a))
+  unfolding any
+  safe-heed n next ih = by-answer b (domainOf b n) next SafeAfter (λ h. apart h)
+      (λ h. (ih h .0, λ e. later-dane absent _ (ih h .1 e)))
+      (λ h. (ih h .0, λ e. later-dane insecure _ (ih h .1 e)))
+      (λ h. (ih h .0, λ e. later-dane (secure []) _ (ih h .1 e)))
+      (λ r rs e h. apart h)
+      (λ r rs e. subst (λ (l : List Answer). Safe (secure (r ∷ rs) ∷ l) (connect b (set (domainOf b n) (r ∷ rs)))) (sym (quiet-connect b f (set (domainOf b n) (r ∷ rs)) .0)) (safe-taken n r rs))
+
+  safe-seek : (p : Place) (ns : List TlsaName) → Safe (answersAt (reached (seek b p ns) f) f) (seek b p ns)
+  safe-seek p [] = subst (λ (l : List Answer). Safe l (connect b nothing)) (sym (quiet-connect b f nothing .0)) safe-nothing
+  safe-seek p (n ∷ ns) = safe-heed n (seek b second ns) (safe-seek second ns) (value f (tlsa p))
+
+  safe-names : (ns : List TlsaName) → Safe (answersAt (reached (start b (names ns)) f) f) (start b (names ns))
+  safe-names ns = by-cond (λ (t : Rules). Safe (answersAt (reached t f) f) t) (needsMtaSts b && not (isListed b)) (λ e h. apart h) (λ e. safe-seek first ns)
+
+  safe-start : (a : Address) → Safe (answersAt (reached (start b (namesToTry a)) f) f) (start b (namesToTry a))
+  safe-start NoAliasSecure = safe-names (hostName ∷ [])
+  safe-start NoAliasInsecure = safe-names []
+  safe-start AliasSecure = safe-names (expandedName ∷ hostName ∷ [])
+  safe-start AliasFirstStepSecure = safe-names (hostName ∷ [])
+  safe-start AliasFirstStepInsecure = safe-names []
+  safe-start Failed = λ h. apart h
+  safe-start NoAddress = λ h. apart h
+
+  safe-rules : Safe (reachedAnswers b f) (rules b)
+  unfolding rules
+  safe-rules = safe-start (b .address)
+
+-- whatever is delivered: under a live enforce policy the MTA-STS check passes, and where the rules read a usable secure record, a set that they read passes DANE
+pub delivers-safely : (a : Arguments) → IsFull a → delivers (hostAnswer a .number) ≡ true
+    → (needsMtaSts (baseOf a) ≡ true → mtaStsPasses (baseOf a) (fullOf a .presented) ≡ true) × (noneUsable (reachedAnswers (baseOf a) (fullOf a)) ≡ false → DanePassed (baseOf a) (fullOf a) (reachedAnswers (baseOf a) (fullOf a)))
+delivers-safely a h d = safe-rules (baseOf a) (fullOf a) (subst (λ (n : ℕ). delivers n ≡ true) (full-number a h) d)
