@@ -1,9 +1,14 @@
 // The C boundary: each call takes numbers and byte slices of any contents and answers for all of them. `include/tweedstork.h` declares them.
+ghost use mathlib.Core.Bool.{true};
 ghost use mathlib.Core.Path.{_≡_};
 ghost use lib.ListN.{length};
+ghost use Rattle.hosts.specs.Arguments.{argumentsOf};
+ghost use Rattle.hosts.specs.Demands.{Judged};
 ghost use Rattle.policies.specs.Policy.{policyAnswer};
 ghost use Rattle.txt.specs.Txt.{readTxt, wroteTxt};
-ghost use Rattle.tweedstork.specs.Calls.{nextHostAnswer};
+ghost use Rattle.tweedstork.specs.Calls.{isBytes, nextHostAnswer};
+use hosts::HostAnswer;
+use hosts::Numbers;
 use messages::MessageAnswer;
 use messages::MxLookup;
 use policies::PolicyAnswer;
@@ -24,6 +29,103 @@ pub extern "C" fn tweedstork_read_policy(body: &[u8]) -> PolicyAnswer
     ensures { λ r. ⌜ r ≡ policyAnswer (now (body .entry)) ⌝ }
 {
     policies::read_policy(body)
+}
+
+// Every byte of a slice is below 256. The type says so; this makes it a fact that a proof can cite, and nothing is left of it in the compiled code.
+fn is_bytes(s: &[u8]) -> bool
+    ensures { λ r. ⌜ isBytes (now (s .entry)) ≡ true ⌝ }
+{
+    if s.len() == 0 {
+        return true;
+    }
+    s[0] <= 255
+}
+
+// May the relay deliver to this host, and how? Or what must it learn next?
+#[no_mangle]
+pub extern "C" fn tweedstork_judge_host<'a>(
+    clock: u64,
+    next_hop: &'a [u8],
+    origin: u64,
+    host: &'a [u8],
+    address: u64,
+    expanded: &'a [u8],
+    policy_given: u64,
+    policy: &'a [u8],
+    fetched: u64,
+    tlsa_answers: u64,
+    tlsa1_result: u64,
+    tlsa1_lengths: &'a [u8],
+    tlsa1_records: &'a [u8],
+    tlsa2_result: u64,
+    tlsa2_lengths: &'a [u8],
+    tlsa2_records: &'a [u8],
+    starttls: u64,
+    handshake: u64,
+    certificates_given: u64,
+    certificates: &'a [u8],
+    certificate_lengths: &'a [u8],
+    key_places: &'a [u8],
+    digests: &'a [u8],
+    paths: &'a [u8],
+    trusted_root: u64,
+    dns_ids: &'a [u8],
+    dns_id_lengths: &'a [u8],
+    common_name_given: u64,
+    common_name: &'a [u8],
+) -> HostAnswer
+    ensures { λ r. ⌜ Judged (argumentsOf (record { clock = clock; origin = origin; address = address; «policy_given» = «policy_given»; fetched = fetched; «tlsa_answers» = «tlsa_answers»; «tlsa1_result» = «tlsa1_result»; «tlsa2_result» = «tlsa2_result»; starttls = starttls; handshake = handshake; «certificates_given» = «certificates_given»; «trusted_root» = «trusted_root»; «common_name_given» = «common_name_given» }) (now («next_hop» .entry)) (now (host .entry)) (now (expanded .entry)) (now (policy .entry)) (now («tlsa1_lengths» .entry)) (now («tlsa1_records» .entry)) (now («tlsa2_lengths» .entry)) (now («tlsa2_records» .entry)) (now (certificates .entry)) (now («certificate_lengths» .entry)) (now («key_places» .entry)) (now (digests .entry)) (now (paths .entry)) (now («dns_ids» .entry)) (now («dns_id_lengths» .entry)) (now («common_name» .entry))) r ⌝ }
+{
+    let _next_hop = is_bytes(next_hop);
+    let _host = is_bytes(host);
+    let _expanded = is_bytes(expanded);
+    let _policy = is_bytes(policy);
+    let _tlsa1_lengths = is_bytes(tlsa1_lengths);
+    let _tlsa1_records = is_bytes(tlsa1_records);
+    let _tlsa2_lengths = is_bytes(tlsa2_lengths);
+    let _tlsa2_records = is_bytes(tlsa2_records);
+    let _certificates = is_bytes(certificates);
+    let _certificate_lengths = is_bytes(certificate_lengths);
+    let _key_places = is_bytes(key_places);
+    let _digests = is_bytes(digests);
+    let _paths = is_bytes(paths);
+    let _dns_ids = is_bytes(dns_ids);
+    let _dns_id_lengths = is_bytes(dns_id_lengths);
+    let _common_name = is_bytes(common_name);
+    let n = Numbers {
+        clock,
+        origin,
+        address,
+        policy_given,
+        fetched,
+        tlsa_answers,
+        tlsa1_result,
+        tlsa2_result,
+        starttls,
+        handshake,
+        certificates_given,
+        trusted_root,
+        common_name_given,
+    };
+    hosts::judge_host(
+        n,
+        next_hop,
+        host,
+        expanded,
+        policy,
+        tlsa1_lengths,
+        tlsa1_records,
+        tlsa2_lengths,
+        tlsa2_records,
+        certificates,
+        certificate_lengths,
+        key_places,
+        digests,
+        paths,
+        dns_ids,
+        dns_id_lengths,
+        common_name,
+    )
 }
 
 // Which of a message's hosts decides?

@@ -30,6 +30,9 @@ pub fn run(s: &[u8], f: Fields) -> Outcome {
     if check::same(call, b"read_policy") {
         return read_policy(s, f);
     }
+    if check::same(call, b"judge_host") {
+        return judge_host(s, f);
+    }
     if check::same(call, b"next_host") {
         return next_host(s, f);
     }
@@ -94,6 +97,48 @@ fn read_policy(s: &[u8], f: Fields) -> Outcome {
             number_at(f, 7),
         ),
         four(r.number, r.mode, r.lifetime, r.mx_count),
+    )
+}
+
+fn judge_host(s: &[u8], f: Fields) -> Outcome {
+    if !has_kinds(f, b"wwnbnbnbnbnnnbbnbbnnnbbbbbnbbnb=nn") {
+        return Outcome::Unreadable;
+    }
+    let r = tweedstork::tweedstork_judge_host(
+        number_at(f, 2),
+        bytes_at(s, f, 3),
+        number_at(f, 4),
+        bytes_at(s, f, 5),
+        number_at(f, 6),
+        bytes_at(s, f, 7),
+        number_at(f, 8),
+        bytes_at(s, f, 9),
+        number_at(f, 10),
+        number_at(f, 11),
+        number_at(f, 12),
+        bytes_at(s, f, 13),
+        bytes_at(s, f, 14),
+        number_at(f, 15),
+        bytes_at(s, f, 16),
+        bytes_at(s, f, 17),
+        number_at(f, 18),
+        number_at(f, 19),
+        number_at(f, 20),
+        bytes_at(s, f, 21),
+        bytes_at(s, f, 22),
+        bytes_at(s, f, 23),
+        bytes_at(s, f, 24),
+        bytes_at(s, f, 25),
+        number_at(f, 26),
+        bytes_at(s, f, 27),
+        bytes_at(s, f, 28),
+        number_at(f, 29),
+        bytes_at(s, f, 30),
+    );
+    compared(
+        name(s, f),
+        two(number_at(f, 32), number_at(f, 33)),
+        two(r.number, r.tlsa_questions),
     )
 }
 

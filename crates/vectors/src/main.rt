@@ -25,6 +25,8 @@ fn main() {
     };
     let c = run_file(b"read_txt.cases", c);
     let c = run_file(b"read_policy.cases", c);
+    let c = run_file(b"judge_host.cases", c);
+    let c = run_file(b"judge_host_limits.cases", c);
     let c = run_file(b"next_host.cases", c);
     say_number(c.passed);
     say(b" passed, ");
