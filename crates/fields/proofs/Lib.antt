@@ -1,3 +1,4 @@
+pub mod Letter
 pub mod Name
 pub mod Blank
 mod Worked

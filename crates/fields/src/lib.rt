@@ -54,12 +54,16 @@ pub fn before_blanks(s: &[u8]) -> usize
 pub fn is_letter_or_digit(b: u8) -> bool
     ensures { λ r. ⌜ r ≡ letterOrDigit b ⌝ }
 {
-    match b {
-        b'a'..=b'z' => true,
-        b'A'..=b'Z' => true,
-        b'0'..=b'9' => true,
-        _ => false,
+    if b'a' <= b {
+        return b <= b'z';
     }
+    if b'A' <= b {
+        return b <= b'Z';
+    }
+    if b'0' <= b {
+        return b <= b'9';
+    }
+    false
 }
 
 // Whether b is a letter, a digit, `_`, `-` or `.`.

@@ -10,13 +10,16 @@ ghost use Rattle.names.specs.Scan.{labelEnds, coversName};
 fn is_label_byte(b: u8) -> bool
     ensures { λ r. ⌜ r ≡ labelByte b ⌝ }
 {
-    match b {
-        b'a'..=b'z' => true,
-        b'A'..=b'Z' => true,
-        b'0'..=b'9' => true,
-        b'-' => true,
-        _ => false,
+    if b'a' <= b {
+        return b <= b'z';
     }
+    if b'A' <= b {
+        return b <= b'Z';
+    }
+    if b'0' <= b {
+        return b <= b'9';
+    }
+    b == b'-'
 }
 
 // The first place of s at or after `from` where no byte of a label stands; `from` where it is past the end.
