@@ -25,12 +25,14 @@ archive: toolchain
 
 # The example programs.
 examples: archive
-	@for example in relay discover; do $(CC) $(CFLAGS) $(WARNINGS) -Iinclude examples/$$example.c $(ARCHIVE) -o $(OUT)/$$example || exit 1; done
+	@for example in relay discover host; do $(CC) $(CFLAGS) $(WARNINGS) -Iinclude examples/$$example.c $(ARCHIVE) -o $(OUT)/$$example || exit 1; done
 
 run: examples
 	@echo; $(OUT)/discover examples/domain/records.txt examples/domain/policy.txt
+	@echo; $(OUT)/host dane
+	@echo; $(OUT)/host stripped
+	@echo; $(OUT)/host mta-sts
 	@echo; $(OUT)/relay 20:4 10:22 10:24
-	@echo; $(OUT)/relay 10:20 20:25
 
 # The C tests, then the layout of the source, then the proofs, the must-fail edits and the cases.
 test: examples

@@ -4,8 +4,11 @@
  * The relay asks before it delivers, learns what the library asks for, and asks again. The rules are those of
  * MTA-STS (RFC 8461) and SMTP-DANE (RFC 7672). Every call is proved to answer as its definition says, for every input.
  *
- * What the library does not do: it has no resolver, no HTTPS, no TLS, no path checking and no hashing. The relay brings
- * their results, and the answers are as good as these.
+ * What the library does not do:
+ * - it has no resolver, no HTTPS, no TLS, no path checking and no hashing: the relay brings their results, and the answers are
+ *   as good as these;
+ * - it keeps no policies and asks for no parent domain's policy;
+ * - it does not read certificates: the relay says where the key info stands and which names and digests there are.
  *
  * Conventions
  * - A number is a uint64_t. A byte slice is a pointer and a length; NULL with length 0 is an empty slice.
@@ -38,6 +41,12 @@ enum tweedstork_number {
     /* a message's hosts */
     TWEEDSTORK_TRY_HOST = 8,                /* try this host */
     TWEEDSTORK_NOT_TRIED = 9,               /* (input only) host not tried yet */
+    /* a host: what to learn next */
+    TWEEDSTORK_ASK_STARTTLS = 10,           /* ask: STARTTLS offered? */
+    TWEEDSTORK_ASK_HANDSHAKE = 11,          /* ask: handshake outcome */
+    TWEEDSTORK_ASK_CERTIFICATES = 12,       /* ask: certificate facts */
+    TWEEDSTORK_ASK_TLSA_EXPANDED = 13,      /* ask: TLSA at the expanded name */
+    TWEEDSTORK_ASK_TLSA_HOST = 14,          /* ask: TLSA at the host name */
     /* verdicts on a host: go on to the next host */
     TWEEDSTORK_ADDRESS_FAILED = 20,         /* address lookup failed */
     TWEEDSTORK_NO_ADDRESS = 21,             /* no address */
@@ -59,10 +68,50 @@ enum tweedstork_number {
     TWEEDSTORK_POLICY_LONG = 50,            /* policy: over 65,536 bytes */
     TWEEDSTORK_POLICY_MALFORMED = 51,       /* policy: malformed */
     TWEEDSTORK_POLICY_INCOMPLETE = 52,      /* policy: required field missing */
+    TWEEDSTORK_BAD_NEXT_HOP = 60,           /* bad next-hop name */
+    TWEEDSTORK_BAD_HOST = 61,               /* bad host name, or bad expanded name of an alias */
+    TWEEDSTORK_BAD_CLOCK = 62,              /* a clock above 253,402,300,799 */
     TWEEDSTORK_BAD_HOST_LIST = 63,          /* host list empty, over 32, lists of unequal length or with left-over bytes,
                                                a preference over 65,535, or a number that is no host verdict */
-    TWEEDSTORK_BAD_CODE = 67                /* an input code outside its named choices */
+    TWEEDSTORK_BAD_TLSA = 64,               /* TLSA answer outside the limits */
+    TWEEDSTORK_BAD_CERTIFICATES = 65,       /* certificate facts outside the limits */
+    TWEEDSTORK_FACT_MISSING = 66,           /* a later fact given while an earlier needed one is missing */
+    TWEEDSTORK_BAD_CODE = 67                /* an input code or yes/no number outside its named choices, or over two TLSA answers */
 };
+
+/* Input codes. Zero is a choice only where it says "not given". */
+enum { TWEEDSTORK_YES = 1, TWEEDSTORK_NO = 2 };
+
+enum tweedstork_origin {
+    TWEEDSTORK_SECURE_MX = 1,
+    TWEEDSTORK_INSECURE_MX = 2,
+    TWEEDSTORK_NO_MX = 3                    /* the host is the next-hop itself */
+};
+
+enum tweedstork_address {
+    TWEEDSTORK_NO_ALIAS_SECURE = 1,
+    TWEEDSTORK_NO_ALIAS_INSECURE = 2,
+    TWEEDSTORK_ALIAS_SECURE = 3,            /* at every stage */
+    TWEEDSTORK_ALIAS_FIRST_STEP_SECURE = 4, /* but the address is not */
+    TWEEDSTORK_ALIAS_FIRST_STEP_INSECURE = 5,
+    TWEEDSTORK_ADDRESS_LOOKUP_FAILED = 6,
+    TWEEDSTORK_ADDRESS_ABSENT = 7
+};
+
+enum tweedstork_policy_given { TWEEDSTORK_POLICY = 1, TWEEDSTORK_NO_POLICY = 2 };
+
+enum tweedstork_tlsa_result {
+    TWEEDSTORK_TLSA_SECURE = 1,             /* with the records listed, perhaps none */
+    TWEEDSTORK_TLSA_INSECURE = 2,
+    TWEEDSTORK_TLSA_ABSENT = 3,
+    TWEEDSTORK_TLSA_LOOKUP_FAILED = 4
+};
+
+enum tweedstork_starttls { TWEEDSTORK_STARTTLS_NOT_GIVEN = 0, TWEEDSTORK_STARTTLS_OFFERED = 1, TWEEDSTORK_STARTTLS_NOT_OFFERED = 2 };
+
+enum tweedstork_handshake { TWEEDSTORK_HANDSHAKE_NOT_GIVEN = 0, TWEEDSTORK_ESTABLISHED = 1, TWEEDSTORK_NOT_ESTABLISHED = 2 };
+
+enum tweedstork_certificates_given { TWEEDSTORK_CERTIFICATES_NOT_GIVEN = 0, TWEEDSTORK_CERTIFICATES_GIVEN = 1 };
 
 /* Was the MX lookup answered? */
 enum tweedstork_mx_lookup {
@@ -114,6 +163,69 @@ struct tweedstork_policy_answer {
  * Leaves:  all memory as it was.
  */
 struct tweedstork_policy_answer tweedstork_read_policy(const uint8_t *body, size_t body_length);
+
+struct tweedstork_host_answer {
+    uint64_t number;
+    uint64_t tlsa_questions;
+};
+
+/*
+ * May the relay deliver to this host, and how? Or what must it learn next?
+ *
+ * The relay calls with what it knows, learns the fact that the answer asks for, and calls again, until the answer is a verdict.
+ *
+ * Takes:   in every call: clock (seconds since 1970), next_hop (the name that the MX lookup was made for), origin of the host
+ *          list, host (the name of the host to judge), address (result of its address lookup), expanded (the fully expanded
+ *          host name, where the address is an alias), policy_given, policy (the body) and fetched (the clock of its fetch).
+ *          Then, as far as learnt, in this order:
+ *          tlsa_answers: how many TLSA answers are given, 0 to 2, in the order asked for; of each its result and, where that
+ *          is TWEEDSTORK_TLSA_SECURE, its records: their RDATAs one after another, and a list of their lengths (up to 32
+ *          records of up to 4,096 bytes).
+ *          starttls; handshake;
+ *          certificates_given, and then: the certificates one after another, leaf first, and a list of their lengths (up to 8
+ *          of up to 16,384 bytes, 65,536 in all); key_places: list of numbers, for each certificate start and length of its
+ *          public key info inside it; digests: for each certificate 192 bytes, SHA-256 and SHA-512 of the certificate, then
+ *          of its key info; paths: list of yes/no, does the path from the leaf to it verify?; trusted_root (yes/no): does the
+ *          path end in a trusted root, unexpired?; dns_ids one after another with a list of their lengths (up to 64 of up to
+ *          255 bytes); common_name_given (yes/no) and the common name (up to 255 bytes).
+ *          What isn't supplied is not looked at, whatever bytes stand there.
+ * Answers: a verdict (1 to 5: deliver; 20 to 27: next host), exactly when every way in which the missing facts could turn
+ *          out leads to it; otherwise the question (10 to 14) of the first fact that the rules reach and that is not given.
+ *          tlsa_questions is how many of the given TLSA answers the rules read, 0 to 2.
+ *          Refusals, in this order: TWEEDSTORK_BAD_CODE, _BAD_CLOCK, _BAD_NEXT_HOP, _BAD_HOST, the policy's (50 to 52),
+ *          _BAD_TLSA, _BAD_CERTIFICATES, and last _FACT_MISSING.
+ * Leaves:  all memory as it was.
+ */
+struct tweedstork_host_answer tweedstork_judge_host(
+    uint64_t clock,
+    const uint8_t *next_hop, size_t next_hop_length,
+    uint64_t origin,
+    const uint8_t *host, size_t host_length,
+    uint64_t address,
+    const uint8_t *expanded, size_t expanded_length,
+    uint64_t policy_given,
+    const uint8_t *policy, size_t policy_length,
+    uint64_t fetched,
+    uint64_t tlsa_answers,
+    uint64_t tlsa1_result,
+    const uint8_t *tlsa1_lengths, size_t tlsa1_lengths_length,
+    const uint8_t *tlsa1_records, size_t tlsa1_records_length,
+    uint64_t tlsa2_result,
+    const uint8_t *tlsa2_lengths, size_t tlsa2_lengths_length,
+    const uint8_t *tlsa2_records, size_t tlsa2_records_length,
+    uint64_t starttls,
+    uint64_t handshake,
+    uint64_t certificates_given,
+    const uint8_t *certificates, size_t certificates_length,
+    const uint8_t *certificate_lengths, size_t certificate_lengths_length,
+    const uint8_t *key_places, size_t key_places_length,
+    const uint8_t *digests, size_t digests_length,
+    const uint8_t *paths, size_t paths_length,
+    uint64_t trusted_root,
+    const uint8_t *dns_ids, size_t dns_ids_length,
+    const uint8_t *dns_id_lengths, size_t dns_id_lengths_length,
+    uint64_t common_name_given,
+    const uint8_t *common_name, size_t common_name_length);
 
 struct tweedstork_message_answer {
     uint64_t number;

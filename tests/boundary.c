@@ -147,13 +147,50 @@ static void policies(void)
     read_policy("65,537 bytes", NULL, 65537, TWEEDSTORK_POLICY_LONG, 0, 0, 0);
 }
 
+/* A host with an insecure address, no policy and nothing learnt; what isn't supplied is NULL. */
+static struct tweedstork_host_answer judge(uint64_t clock, const char *host, uint64_t address, uint64_t starttls, uint64_t certificates_given)
+{
+    size_t length = strlen(host);
+    uint8_t *name = malloc(length + 1);
+    if (name == NULL)
+        abort();
+    memcpy(name, host, length);
+    struct tweedstork_host_answer answer = tweedstork_judge_host(
+        clock, name, length, TWEEDSTORK_NO_MX, name, length, address, NULL, 0, TWEEDSTORK_NO_POLICY, NULL, 0, UINT64_MAX,
+        0, UINT64_MAX, NULL, 0, NULL, 0, UINT64_MAX, NULL, 0, NULL, 0, starttls, TWEEDSTORK_HANDSHAKE_NOT_GIVEN, certificates_given,
+        NULL, 0, NULL, 0, NULL, 0, NULL, 0, NULL, 0, TWEEDSTORK_NO, NULL, 0, NULL, 0, TWEEDSTORK_NO, NULL, 0);
+    free(name);
+    return answer;
+}
+
+static void judged(const char *name, struct tweedstork_host_answer answer, uint64_t number, uint64_t questions)
+{
+    expect(name, answer.number == number && answer.tlsa_questions == questions);
+}
+
+static void hosts(void)
+{
+    judged("STARTTLS is asked for", judge(0, "a.example", TWEEDSTORK_NO_ALIAS_INSECURE, 0, 0), TWEEDSTORK_ASK_STARTTLS, 0);
+    judged("cleartext", judge(0, "a.example", TWEEDSTORK_NO_ALIAS_INSECURE, TWEEDSTORK_STARTTLS_NOT_OFFERED, 0), TWEEDSTORK_CLEARTEXT, 0);
+    judged("TLSA is asked for", judge(0, "a.example", TWEEDSTORK_NO_ALIAS_SECURE, 0, 0), TWEEDSTORK_ASK_TLSA_HOST, 0);
+    judged("address lookup failed", judge(0, "a.example", TWEEDSTORK_ADDRESS_LOOKUP_FAILED, 0, 0), TWEEDSTORK_ADDRESS_FAILED, 0);
+    judged("an empty host name", judge(0, "", TWEEDSTORK_NO_ALIAS_INSECURE, 0, 0), TWEEDSTORK_BAD_NEXT_HOP, 0);
+    judged("the latest clock", judge(253402300799, "a.example", TWEEDSTORK_ADDRESS_ABSENT, 0, 0), TWEEDSTORK_NO_ADDRESS, 0);
+    judged("a clock too late", judge(253402300800, "a.example", TWEEDSTORK_ADDRESS_ABSENT, 0, 0), TWEEDSTORK_BAD_CLOCK, 0);
+    judged("a code above 32 bits", judge(0, "a.example", (uint64_t)1 << 32 | TWEEDSTORK_ADDRESS_ABSENT, 0, 0), TWEEDSTORK_BAD_CODE, 0);
+    judged("certificates before STARTTLS", judge(0, "a.example", TWEEDSTORK_NO_ALIAS_INSECURE, 0, TWEEDSTORK_CERTIFICATES_GIVEN), TWEEDSTORK_FACT_MISSING, 0);
+    judged("certificates beside not offered", judge(0, "a.example", TWEEDSTORK_NO_ALIAS_INSECURE, TWEEDSTORK_STARTTLS_NOT_OFFERED, TWEEDSTORK_CERTIFICATES_GIVEN), TWEEDSTORK_CLEARTEXT, 0);
+}
+
 int main(void)
 {
+    expect("tweedstork_host_answer has two numbers", sizeof(struct tweedstork_host_answer) == 16 && offsetof(struct tweedstork_host_answer, tlsa_questions) == 8);
     expect("tweedstork_txt_answer has three numbers", sizeof(struct tweedstork_txt_answer) == 24 && offsetof(struct tweedstork_txt_answer, id_start) == 8 && offsetof(struct tweedstork_txt_answer, id_length) == 16);
     expect("tweedstork_policy_answer has four numbers", sizeof(struct tweedstork_policy_answer) == 32 && offsetof(struct tweedstork_policy_answer, mode) == 8 && offsetof(struct tweedstork_policy_answer, lifetime) == 16 && offsetof(struct tweedstork_policy_answer, mx_count) == 24);
     expect("tweedstork_message_answer has two numbers", sizeof(struct tweedstork_message_answer) == 16 && offsetof(struct tweedstork_message_answer, position) == 8);
     txt_records();
     policies();
+    hosts();
     message_hosts();
     printf("boundary: %u passed, %u failed\n", passed, failed);
     return failed == 0 ? 0 : 1;

@@ -39,5 +39,14 @@ printf 'version: STSv1\nmode: none\n' >"$files/short"
 expect 'policy: answer 52: the policy lacks a required field' discover $domain/records.txt "$files/short"
 expect "discover: cannot read $files/missing (at most 100000 bytes)" discover $domain/records.txt "$files/missing"
 
+# document 01, "A host's facts, in the order learnt"
+expect 'answer 3: deliver authenticated by DANE (1 TLSA answers read)' host dane
+expect 'answer 26: next host: DANE did not match (1 TLSA answers read)' host wrong-key
+expect 'answer 24: next host: TLS needed, not offered (1 TLSA answers read)' host stripped
+expect 'answer 22: next host: TLSA lookup failed (1 TLSA answers read)' host lookup-failed
+expect 'answer 4: deliver authenticated by MTA-STS (1 TLSA answers read)' host mta-sts
+expect 'answer 27: next host: MTA-STS certificate check did not pass (1 TLSA answers read)' host wrong-name
+expect 'answer 1: deliver in cleartext (1 TLSA answers read)' host plain
+
 [ "$failed" -eq 0 ] && echo "examples: as expected"
 exit "$failed"
