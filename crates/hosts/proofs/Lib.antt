@@ -13,7 +13,6 @@ pub mod Second
 pub mod Judged
 pub mod Table
 pub mod Order
-pub mod Cases
 pub mod Exactly
 pub mod Passed
 pub mod Safe

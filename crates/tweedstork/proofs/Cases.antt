@@ -1,11 +1,13 @@
--- Document 01, "Cases on both sides": those of a host that are marked P, together, by computation over the arguments of the call. Assumes nothing.
-use Prim.Native.Nat.{ℕ}
+-- Document 01, "Cases on both sides": the cases that are marked P, of TXT records, names, clocks and hosts, proved together by computation over the definitions. Assumes nothing.
+use Prim.Native.Nat.{ℕ, _+_}
 use mathlib.Core.Path.{_≡_, refl}
-use mathlib.Core.List.{List, [], _∷_, _++_, map}
-use lib.ListN.{replicate}
+use mathlib.Core.Bool.{Bool, true, false}
+use mathlib.Core.List.{List, [], _∷_, _++_, flatten}
+use lib.ListN.{length, replicate}
+use lib.IntN.{ℤ, pos}
 use Rattle.lists.specs.Bytes.{all, any, lowerOf}
 use Rattle.lists.specs.Equal.{agree, sameByte, sameLetter}
-use Rattle.lists.specs.Span.{spanOf}
+use Rattle.lists.specs.Span.{spanOf, begins}
 use Rattle.lists.specs.Split.{indexOf, split, toFirst}
 use Rattle.lists.specs.Text.{text}
 use Rattle.numbers.specs.Numbers.{numbers, isWhole, sum, written}
@@ -24,11 +26,38 @@ use Rattle.tlsa.specs.Answer.{answerOf, setFits, answerFits, needsOf, takenOf, 
 use Rattle.certificates.specs.Facts.{certificateAt, certificatesOf, presentedOf}
 use Rattle.certificates.specs.Limits.{certificateFits, totalOf, chainKeepsLimits, commonNameFits, namesKeepLimits, keepsLimits, oneForEach, chainFits, namesFit, factsFit, yesNo}
 use Rattle.certificates.specs.Checks.{byType, compared, matchesCertificate, matchesOnPath, recordMatches, references, leafNames, namesReference, danePasses, showsHost}
 use Rattle.hosts.specs.declared.HostAnswer.{HostAnswer}
 use Rattle.hosts.specs.declared.Numbers.{Numbers}
 use Rattle.hosts.specs.Rules.{needsMtaSts, isListed, mtaStsPasses, rules}
 use Rattle.hosts.specs.Arguments.{Arguments, baseOf, presentedIn, factsOf}
 use Rattle.hosts.specs.Call.{codesFit, clocksFit, hostNamesFit, policyFits, answersFit, certificatesFit, checks, hostAnswer}
+use Rattle.txt.specs.declared.TxtAnswer.{TxtAnswer}
+use Rattle.txt.specs.Paper as Q
+use Rattle.txt.specs.Rdata as R
+use Rattle.txt.specs.Grammar as G
+use Rattle.txt.specs.Txt as X
+
+-- what a case is about: the answer to a TXT record, whether a pattern matches a name, a policy's time left and whether it is live, the answer on a host
+pub data Case : Type 0 where
+  record-read : TxtAnswer → Case
+  name-matches : Bool → Case
+  time-left : ℤ → Bool → Case
+  host-judged : HostAnswer → Case
+
+-- a record of one character string, with an output of 64 bytes
+abbrev txt : List ℕ → Case
+txt t = record-read (X.readTxt (length t ∷ t) (written ((1 + length t) ∷ [])) 64)
+
+-- 6 with the id at `start`, of `size` bytes
+abbrev accepted : ℕ → ℕ → Case
+accepted start size = record-read (record { number = 6; «id_start» = start; «id_length» = size })
+
+abbrev malformed : Case
+malformed = record-read (X.refusal 42)
+
+-- fetched at 1,000 with max_age 604,800, at a present clock
+abbrev fetched : ℕ → Case
+fetched present = time-left (timeLeft 1000 604800 present) (isLive 1000 604800 present)
 
 -- mail.example.com, a host of example.com that is no alias, at the clock 605,000; one TLSA answer, secure, with at most one record
 abbrev numbersWith : (policy starttls handshake certificates : ℕ) → Numbers
@@ -77,18 +106,53 @@ usage1 = 1 ∷ 1 ∷ 1 ∷ replicate 32 7
 abbrev matching : List ℕ
 matching = 3 ∷ 1 ∷ 1 ∷ replicate 32 7
 
-abbrev answer : ℕ → HostAnswer
-answer n = record { number = n; «tlsa_questions» = 1 }
+-- the answer n, after one TLSA answer was read
+abbrev judged : ℕ → Case
+judged n = host-judged (record { number = n; «tlsa_questions» = 1 })
 
--- zero records, no policy, not offered: 1. The same with only a usage 1 record: 24. That record and TLS established: 2.
--- Record 3 1 1 with the leaf's key digest, live enforce policy with a pattern for the host, no DNS-ID: 27; without the policy: 3
-pub cases : map hostAnswer (
-    hostWith (numbersWith 2 2 0 0) [] []
-    ∷ hostWith (numbersWith 2 2 0 0) (written (35 ∷ [])) usage1
-    ∷ hostWith (numbersWith 2 1 1 0) (written (35 ∷ [])) usage1
-    ∷ hostWith (numbersWith 1 1 1 1) (written (35 ∷ [])) matching
-    ∷ hostWith (numbersWith 2 1 1 1) (written (35 ∷ [])) matching
-    ∷ [])
-    ≡ answer 1 ∷ answer 24 ∷ answer 2 ∷ answer 27 ∷ answer 3 ∷ []
+abbrev host : Arguments → Case
+host a = host-judged (hostAnswer a)
+
+-- lines `unfolding txtComputed hostComputed` open all that the calls compute by
+txtComputed : ℕ
+unfolding all indexOf spanOf begins agree sameByte numbers written isWhole sum cut sumsTo blank letterOrDigit nameByte isFieldName hasName R.stringsIn R.strings R.fitIn R.stringsFit R.isRdata R.isWireForm R.joined R.texts flatten G.hasDelimiter G.afterDelimiter Q.valueByte G.nameOf G.afterName G.valueOf G.afterField G.hasField G.oneMore G.fieldsIn G.fieldsOf G.firstNamed Q.isId G.withId G.idAmong G.idField X.graded X.isCandidate X.candidates X.chosen X.outcome X.answerOf X.readTxt X.outputOf X.wroteTxt
+txtComputed = 0
+
+hostComputed : ℕ
 unfolding all any lowerOf agree sameByte sameLetter spanOf indexOf split toFirst numbers isWhole sum written cut sumsTo upTo numbered labelByte isLabel isName isStarred isWildcard isPattern matchesName cappedAge isReading timeLeft isLive blank unblanked letterOrDigit nameByte isFieldName hasName utf8Tail utf8Two utf8Three utf8Four printable isText isValue lines lineStart nameOf valueOf isLine isNamed firstNamed patterns isVersion modeOf isDigit decimalAfter ageOf isThere isFirst causeAfter faultAt orLater firstFault bodyFault modeIn ageIn hasPatterns complete completed P.judged readBody modeNumber answerTo policyAnswer short isUsage isSelector dataFits usable answerOf setFits answerFits needsOf takenOf readOf certificateAt certificatesOf presentedOf certificateFits totalOf chainKeepsLimits commonNameFits namesKeepLimits keepsLimits oneForEach chainFits namesFit factsFit yesNo byType compared matchesCertificate matchesOnPath recordMatches references leafNames namesReference danePasses showsHost needsMtaSts isListed mtaStsPasses rules baseOf presentedIn factsOf codesFit clocksFit hostNamesFit policyFits answersFit certificatesFit checks hostAnswer
+hostComputed = 0
+
+-- TXT: the record of RFC 8461, 28 bytes, id at 12, 15 bytes long; without the last `;` accepted; with `; ;` at the end 42.
+-- Names: `*.example.com` matches `mail.example.com`, not `example.com`, not `a.b.example.com`.
+-- Clocks: time left 1 at 605,799; 0 and stale at 605,800.
+-- Hosts: secure, zero records, plain host, no policy, not offered: 1. The same with only a usage 1 record: 24. That record and TLS established: 2.
+-- Record 3 1 1 with the leaf's key digest, live enforce policy with a pattern for the host, no DNS-ID: 27
+pub cases :
+    txt (text "v=STSv1; id=20160831085700Z;")
+    ∷ txt (text "v=STSv1; id=20160831085700Z")
+    ∷ txt (text "v=STSv1; id=20160831085700Z; ;")
+    ∷ name-matches (matchesName (text "*.example.com") (text "mail.example.com"))
+    ∷ name-matches (matchesName (text "*.example.com") (text "example.com"))
+    ∷ name-matches (matchesName (text "*.example.com") (text "a.b.example.com"))
+    ∷ fetched 605799
+    ∷ fetched 605800
+    ∷ host (hostWith (numbersWith 2 2 0 0) [] [])
+    ∷ host (hostWith (numbersWith 2 2 0 0) (written (35 ∷ [])) usage1)
+    ∷ host (hostWith (numbersWith 2 1 1 0) (written (35 ∷ [])) usage1)
+    ∷ host (hostWith (numbersWith 1 1 1 1) (written (35 ∷ [])) matching)
+    ∷ []
+    ≡ accepted 12 15
+    ∷ accepted 12 15
+    ∷ malformed
+    ∷ name-matches true
+    ∷ name-matches false
+    ∷ name-matches false
+    ∷ time-left (pos 1) true
+    ∷ time-left (pos 0) false
+    ∷ judged 1
+    ∷ judged 24
+    ∷ judged 2
+    ∷ judged 27
+    ∷ []
+unfolding txtComputed hostComputed
 cases = refl
