@@ -40,28 +40,6 @@ static size_t put_rdata(uint8_t *rdata, const uint8_t *record, size_t length)
     return at;
 }
 
-static const char *txt_words(uint64_t number)
-{
-    switch (number) {
-    case TWEEDSTORK_TXT_NO_CANDIDATE: return "there is no MTA-STS record";
-    case TWEEDSTORK_TXT_SEVERAL: return "there are several MTA-STS records";
-    case TWEEDSTORK_TXT_MALFORMED: return "the MTA-STS record is malformed";
-    case TWEEDSTORK_TXT_WIRE_FORM: return "the wire form is broken";
-    case TWEEDSTORK_TXT_OUTPUT_SHORT: return "the output is too short for the record";
-    default: return "unexpected answer";
-    }
-}
-
-static const char *policy_words(uint64_t number)
-{
-    switch (number) {
-    case TWEEDSTORK_POLICY_LONG: return "the policy has over 65,536 bytes";
-    case TWEEDSTORK_POLICY_MALFORMED: return "the policy is malformed";
-    case TWEEDSTORK_POLICY_INCOMPLETE: return "the policy lacks a required field";
-    default: return "unexpected answer";
-    }
-}
-
 static const char *mode_words(uint64_t mode)
 {
     switch (mode) {
@@ -91,7 +69,7 @@ static int show_records(const uint8_t *text, size_t length)
     }
     struct tweedstork_txt_answer answer = tweedstork_read_txt(rdatas, rdatas_length, lengths, records * 4, output, sizeof output);
     if (answer.number != TWEEDSTORK_TXT_ACCEPTED) {
-        printf("records: answer %" PRIu64 ": %s\n", answer.number, txt_words(answer.number));
+        printf("records: answer %" PRIu64 ": %s\n", answer.number, tweedstork_answer_words(answer.number));
         return 1;
     }
     printf("records: answer %" PRIu64 ": an MTA-STS record with the id %.*s\n", answer.number, (int)answer.id_length, (const char *)output + answer.id_start);
@@ -102,7 +80,7 @@ static int show_policy(const uint8_t *body, size_t length)
 {
     struct tweedstork_policy_answer answer = tweedstork_read_policy(body, length);
     if (answer.number != TWEEDSTORK_POLICY_ACCEPTED) {
-        printf("policy: answer %" PRIu64 ": %s\n", answer.number, policy_words(answer.number));
+        printf("policy: answer %" PRIu64 ": %s\n", answer.number, tweedstork_answer_words(answer.number));
         return 1;
     }
     printf("policy: answer %" PRIu64 ": mode %s, for %" PRIu64 " seconds, with %" PRIu64 " mx patterns\n", answer.number, mode_words(answer.mode), answer.lifetime, answer.mx_count);

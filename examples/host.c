@@ -58,22 +58,6 @@ static struct tweedstork_host_answer ask(const struct scenario *s, const struct 
         (const uint8_t *)s->dns_id, strlen(s->dns_id), dns_id_length, 4, TWEEDSTORK_NO, NULL, 0);
 }
 
-static const char *words(uint64_t number)
-{
-    switch (number) {
-    case TWEEDSTORK_CLEARTEXT: return "deliver in cleartext";
-    case TWEEDSTORK_ENCRYPTED: return "deliver encrypted, unauthenticated";
-    case TWEEDSTORK_DANE: return "deliver authenticated by DANE";
-    case TWEEDSTORK_MTA_STS: return "deliver authenticated by MTA-STS";
-    case TWEEDSTORK_DANE_AND_MTA_STS: return "deliver authenticated by both";
-    case TWEEDSTORK_TLSA_FAILED: return "next host: TLSA lookup failed";
-    case TWEEDSTORK_TLS_NOT_OFFERED: return "next host: TLS needed, not offered";
-    case TWEEDSTORK_DANE_MISMATCH: return "next host: DANE did not match";
-    case TWEEDSTORK_MTA_STS_MISMATCH: return "next host: MTA-STS certificate check did not pass";
-    default: return "an answer that this example does not expect";
-    }
-}
-
 int main(int argc, char **argv)
 {
     const struct scenario *s = NULL;
@@ -89,26 +73,21 @@ int main(int argc, char **argv)
     printf("mail.example.com, scenario %s\n", s->name);
     for (;;) {
         struct tweedstork_host_answer answer = ask(s, &l);
-        printf("answer %" PRIu64 ": ", answer.number);
+        printf("answer %" PRIu64 ": %s\n", answer.number, tweedstork_answer_words(answer.number));
         switch (answer.number) {
         case TWEEDSTORK_ASK_TLSA_HOST:
-            printf("which TLSA records are there at the host name?\n");
             l.tlsa_answers++;
             break;
         case TWEEDSTORK_ASK_STARTTLS:
-            printf("is STARTTLS offered?\n");
             l.starttls = s->starttls;
             break;
         case TWEEDSTORK_ASK_HANDSHAKE:
-            printf("how did the handshake end?\n");
             l.handshake = s->handshake;
             break;
         case TWEEDSTORK_ASK_CERTIFICATES:
-            printf("which certificates were shown?\n");
             l.certificates = TWEEDSTORK_CERTIFICATES_GIVEN;
             break;
         default:
-            printf("%s (%" PRIu64 " TLSA answers read)\n", words(answer.number), answer.tlsa_questions);
             return 0;
         }
     }

@@ -20,28 +20,6 @@ static void put_number(uint8_t *list, size_t place, uint32_t number)
     list[place * 4 + 3] = (uint8_t)number;
 }
 
-static const char *words(uint64_t number)
-{
-    switch (number) {
-    case TWEEDSTORK_CLEARTEXT: return "deliver in cleartext";
-    case TWEEDSTORK_ENCRYPTED: return "deliver encrypted, unauthenticated";
-    case TWEEDSTORK_DANE: return "deliver authenticated by DANE";
-    case TWEEDSTORK_MTA_STS: return "deliver authenticated by MTA-STS";
-    case TWEEDSTORK_DANE_AND_MTA_STS: return "deliver authenticated by DANE and MTA-STS";
-    case TWEEDSTORK_ADDRESS_FAILED: return "next host: address lookup failed";
-    case TWEEDSTORK_NO_ADDRESS: return "next host: no address";
-    case TWEEDSTORK_TLSA_FAILED: return "next host: TLSA lookup failed";
-    case TWEEDSTORK_NO_PATTERN: return "next host: no policy pattern matches";
-    case TWEEDSTORK_TLS_NOT_OFFERED: return "next host: TLS needed, not offered";
-    case TWEEDSTORK_HANDSHAKE_FAILED: return "next host: TLS needed, handshake failed";
-    case TWEEDSTORK_DANE_MISMATCH: return "next host: DANE did not match";
-    case TWEEDSTORK_MTA_STS_MISMATCH: return "next host: MTA-STS certificate check did not pass";
-    case TWEEDSTORK_NO_HOST_LEFT: return "delay: every host is a \"next host\"";
-    case TWEEDSTORK_BAD_HOST_LIST: return "refused: bad host list";
-    default: return "unexpected answer";
-    }
-}
-
 int main(int argc, char **argv)
 {
     uint8_t preferences[HOSTS * 4], verdicts[HOSTS * 4];
@@ -65,14 +43,14 @@ int main(int argc, char **argv)
     for (;;) {
         struct tweedstork_message_answer answer = tweedstork_next_host(TWEEDSTORK_MX_ANSWERED, preferences, hosts * 4, verdicts, hosts * 4);
         if (answer.number != TWEEDSTORK_TRY_HOST) {
-            printf("answer %" PRIu64 ": %s", answer.number, words(answer.number));
+            printf("answer %" PRIu64 ": %s", answer.number, tweedstork_answer_words(answer.number));
             if (answer.number <= TWEEDSTORK_DANE_AND_MTA_STS)
                 printf(", to host %" PRIu64, answer.position);
             printf("\n");
             return answer.number < TWEEDSTORK_BAD_HOST_LIST ? 0 : 1;
         }
         uint32_t learnt = outcome[answer.position];
-        printf("answer %d: try host %" PRIu64 "; it gets verdict %" PRIu32 " (%s)\n", TWEEDSTORK_TRY_HOST, answer.position, learnt, words(learnt));
+        printf("answer %d: try host %" PRIu64 "; it gets verdict %" PRIu32 " (%s)\n", TWEEDSTORK_TRY_HOST, answer.position, learnt, tweedstork_answer_words(learnt));
         if (learnt == TWEEDSTORK_NOT_TRIED) {
             fprintf(stderr, "relay: a host that was tried has another verdict than %d\n", TWEEDSTORK_NOT_TRIED);
             return 2;

@@ -79,6 +79,54 @@ enum tweedstork_number {
     TWEEDSTORK_BAD_CODE = 67                /* an input code or yes/no number outside its named choices, or over two TLSA answers */
 };
 
+/* A short sentence for an answer number; for any other number, that it is none. Never NULL. */
+static inline const char *tweedstork_answer_words(uint64_t number)
+{
+    switch (number) {
+    case TWEEDSTORK_CLEARTEXT: return "deliver in cleartext";
+    case TWEEDSTORK_ENCRYPTED: return "deliver encrypted, unauthenticated";
+    case TWEEDSTORK_DANE: return "deliver authenticated by DANE";
+    case TWEEDSTORK_MTA_STS: return "deliver authenticated by MTA-STS";
+    case TWEEDSTORK_DANE_AND_MTA_STS: return "deliver authenticated by DANE and MTA-STS";
+    case TWEEDSTORK_TXT_ACCEPTED: return "TXT record accepted";
+    case TWEEDSTORK_POLICY_ACCEPTED: return "policy accepted";
+    case TWEEDSTORK_TRY_HOST: return "try this host";
+    case TWEEDSTORK_NOT_TRIED: return "host not tried yet";
+    case TWEEDSTORK_ASK_STARTTLS: return "ask: is STARTTLS offered?";
+    case TWEEDSTORK_ASK_HANDSHAKE: return "ask: how did the handshake end?";
+    case TWEEDSTORK_ASK_CERTIFICATES: return "ask: which certificates were shown?";
+    case TWEEDSTORK_ASK_TLSA_EXPANDED: return "ask: which TLSA records are there at the expanded name?";
+    case TWEEDSTORK_ASK_TLSA_HOST: return "ask: which TLSA records are there at the host name?";
+    case TWEEDSTORK_ADDRESS_FAILED: return "next host: address lookup failed";
+    case TWEEDSTORK_NO_ADDRESS: return "next host: no address";
+    case TWEEDSTORK_TLSA_FAILED: return "next host: TLSA lookup failed";
+    case TWEEDSTORK_NO_PATTERN: return "next host: no policy pattern matches";
+    case TWEEDSTORK_TLS_NOT_OFFERED: return "next host: TLS needed, not offered";
+    case TWEEDSTORK_HANDSHAKE_FAILED: return "next host: TLS needed, handshake failed";
+    case TWEEDSTORK_DANE_MISMATCH: return "next host: DANE did not match";
+    case TWEEDSTORK_MTA_STS_MISMATCH: return "next host: MTA-STS certificate check did not pass";
+    case TWEEDSTORK_MX_LOOKUP_FAILED: return "delay: MX lookup failed";
+    case TWEEDSTORK_NO_HOST_LEFT: return "delay: every host is a \"next host\"";
+    case TWEEDSTORK_TXT_NO_CANDIDATE: return "refused: there is no MTA-STS record";
+    case TWEEDSTORK_TXT_SEVERAL: return "refused: there are several MTA-STS records";
+    case TWEEDSTORK_TXT_MALFORMED: return "refused: the MTA-STS record is malformed";
+    case TWEEDSTORK_TXT_WIRE_FORM: return "refused: the wire form of the TXT records is broken";
+    case TWEEDSTORK_TXT_OUTPUT_SHORT: return "refused: the output is too short for the record";
+    case TWEEDSTORK_POLICY_LONG: return "refused: the policy has over 65,536 bytes";
+    case TWEEDSTORK_POLICY_MALFORMED: return "refused: the policy is malformed";
+    case TWEEDSTORK_POLICY_INCOMPLETE: return "refused: the policy lacks a required field";
+    case TWEEDSTORK_BAD_NEXT_HOP: return "refused: bad next-hop name";
+    case TWEEDSTORK_BAD_HOST: return "refused: bad host name";
+    case TWEEDSTORK_BAD_CLOCK: return "refused: bad clock";
+    case TWEEDSTORK_BAD_HOST_LIST: return "refused: bad host list";
+    case TWEEDSTORK_BAD_TLSA: return "refused: TLSA answer outside the limits";
+    case TWEEDSTORK_BAD_CERTIFICATES: return "refused: certificate facts outside the limits";
+    case TWEEDSTORK_FACT_MISSING: return "refused: a later fact is given while an earlier needed one is missing";
+    case TWEEDSTORK_BAD_CODE: return "refused: an input code outside its choices";
+    default: return "no answer number";
+    }
+}
+
 /* Input codes. Zero is a choice only where it says "not given". */
 enum { TWEEDSTORK_YES = 1, TWEEDSTORK_NO = 2 };
 

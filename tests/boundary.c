@@ -188,6 +188,9 @@ int main(void)
     expect("tweedstork_txt_answer has three numbers", sizeof(struct tweedstork_txt_answer) == 24 && offsetof(struct tweedstork_txt_answer, id_start) == 8 && offsetof(struct tweedstork_txt_answer, id_length) == 16);
     expect("tweedstork_policy_answer has four numbers", sizeof(struct tweedstork_policy_answer) == 32 && offsetof(struct tweedstork_policy_answer, mode) == 8 && offsetof(struct tweedstork_policy_answer, lifetime) == 16 && offsetof(struct tweedstork_policy_answer, mx_count) == 24);
     expect("tweedstork_message_answer has two numbers", sizeof(struct tweedstork_message_answer) == 16 && offsetof(struct tweedstork_message_answer, position) == 8);
+    for (uint64_t number = 0; number < 100; number++)
+        expect("words for every number", tweedstork_answer_words(number) != NULL);
+    expect("zero is no answer", strcmp(tweedstork_answer_words(0), "no answer number") == 0);
     txt_records();
     policies();
     hosts();

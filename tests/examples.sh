@@ -29,24 +29,24 @@ expect "relay: '10' is not PREFERENCE:VERDICT" relay 10
 domain=examples/domain
 expect 'policy: answer 7: mode enforce, for 604800 seconds, with 3 mx patterns' discover $domain/records.txt $domain/policy.txt
 printf 'v=STSv1; id=1\nv=STSv1; id=2\n' >"$files/two"
-expect 'records: answer 41: there are several MTA-STS records' discover "$files/two" $domain/policy.txt
+expect 'records: answer 41: refused: there are several MTA-STS records' discover "$files/two" $domain/policy.txt
 printf 'v=STSv1; id=%0300d;\n' 1 >"$files/long"
-expect 'records: answer 42: the MTA-STS record is malformed' discover "$files/long" $domain/policy.txt
+expect 'records: answer 42: refused: the MTA-STS record is malformed' discover "$files/long" $domain/policy.txt
 : >"$files/none"
-expect 'records: answer 40: there is no MTA-STS record' discover "$files/none" $domain/policy.txt
-expect 'policy: answer 51: the policy is malformed' discover $domain/records.txt "$files/none"
+expect 'records: answer 40: refused: there is no MTA-STS record' discover "$files/none" $domain/policy.txt
+expect 'policy: answer 51: refused: the policy is malformed' discover $domain/records.txt "$files/none"
 printf 'version: STSv1\nmode: none\n' >"$files/short"
-expect 'policy: answer 52: the policy lacks a required field' discover $domain/records.txt "$files/short"
+expect 'policy: answer 52: refused: the policy lacks a required field' discover $domain/records.txt "$files/short"
 expect "discover: cannot read $files/missing (at most 100000 bytes)" discover $domain/records.txt "$files/missing"
 
 # document 01, "A host's facts, in the order learnt"
-expect 'answer 3: deliver authenticated by DANE (1 TLSA answers read)' host dane
-expect 'answer 26: next host: DANE did not match (1 TLSA answers read)' host wrong-key
-expect 'answer 24: next host: TLS needed, not offered (1 TLSA answers read)' host stripped
-expect 'answer 22: next host: TLSA lookup failed (1 TLSA answers read)' host lookup-failed
-expect 'answer 4: deliver authenticated by MTA-STS (1 TLSA answers read)' host mta-sts
-expect 'answer 27: next host: MTA-STS certificate check did not pass (1 TLSA answers read)' host wrong-name
-expect 'answer 1: deliver in cleartext (1 TLSA answers read)' host plain
+expect 'answer 3: deliver authenticated by DANE' host dane
+expect 'answer 26: next host: DANE did not match' host wrong-key
+expect 'answer 24: next host: TLS needed, not offered' host stripped
+expect 'answer 22: next host: TLSA lookup failed' host lookup-failed
+expect 'answer 4: deliver authenticated by MTA-STS' host mta-sts
+expect 'answer 27: next host: MTA-STS certificate check did not pass' host wrong-name
+expect 'answer 1: deliver in cleartext' host plain
 
 [ "$failed" -eq 0 ] && echo "examples: as expected"
 exit "$failed"
