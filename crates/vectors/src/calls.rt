@@ -22,7 +22,7 @@ pub struct Answer {
 }
 
 // Runs the case of a line: field 0 names the call, field 1 the case, then come the call's arguments, `=>` and its answer.
-pub fn run(s: &[u8], f: Fields) -> Outcome {
+pub(crate) fn run(s: &[u8], f: Fields) -> Outcome {
     let call = bytes_at(s, f, 0);
     if check::same(call, b"read_txt") {
         return read_txt(s, f);
@@ -210,10 +210,10 @@ fn say_more(is_there: bool, n: u64) {
     }
 }
 
-pub fn say_number(n: u64) {
+pub(crate) fn say_number(n: u64) {
     io::print_decimal(STDOUT_FILENO, n);
 }
 
-pub fn say(text: &[u8]) {
+pub(crate) fn say(text: &[u8]) {
     io::write_all(STDOUT_FILENO, text);
 }

@@ -91,7 +91,7 @@ pub enum End {
 }
 
 // The fields of a line, decoded into `out`.
-pub fn read(line: &[u8], out: &mut [u8]) -> Fields {
+pub(crate) fn read(line: &[u8], out: &mut [u8]) -> Fields {
     let mut f = none();
     let mut p = Place {
         mode: Mode::Between,
@@ -111,13 +111,13 @@ pub fn read(line: &[u8], out: &mut [u8]) -> Fields {
 }
 
 // Whether a line is whole and its fields are of these kinds, a letter each.
-pub fn has_kinds(f: Fields, kinds: &[u8]) -> bool {
+pub(crate) fn has_kinds(f: Fields, kinds: &[u8]) -> bool {
     let found = f.kinds;
     !f.is_broken && check::same(part(&found, 0, f.count), kinds)
 }
 
 // The value of field k, or 0 where it is no number.
-pub fn number_at(f: Fields, k: usize) -> u64 {
+pub(crate) fn number_at(f: Fields, k: usize) -> u64 {
     if k >= MOST_FIELDS {
         return 0;
     }
@@ -126,7 +126,7 @@ pub fn number_at(f: Fields, k: usize) -> u64 {
 }
 
 // The bytes of field k, or none where there is no such field.
-pub fn bytes_at(s: &[u8], f: Fields, k: usize) -> &[u8] {
+pub(crate) fn bytes_at(s: &[u8], f: Fields, k: usize) -> &[u8] {
     if k >= MOST_FIELDS {
         return part(s, 0, 0);
     }
@@ -135,7 +135,7 @@ pub fn bytes_at(s: &[u8], f: Fields, k: usize) -> &[u8] {
 }
 
 // The name of a line's case: its second field, or the first where that is no word.
-pub fn name(s: &[u8], f: Fields) -> &[u8] {
+pub(crate) fn name(s: &[u8], f: Fields) -> &[u8] {
     let kinds = f.kinds;
     if f.count < 2 || kinds[1] == BYTES {
         return bytes_at(s, f, 0);
