@@ -1,20 +1,20 @@
 -- The arguments of the call as C passes them, and the facts that they say: one definition, total. What is not supplied is not looked at.
 use Prim.Native.Nat.{ℕ}
-use mathlib.Core.Bool.{Bool, true, false, cond, not, _&&_, _||_}
-use mathlib.Core.List.{List, [], _∷_}
+use mathlib.Core.Bool.{Bool, true, false, cond}
+use mathlib.Core.List.{List, []}
 use mathlib.Core.Option.{Option, none, some}
 use lib.Dec.{eqb, leb}
-use Rattle.policies.specs.Policy.{Policy, Reading, tooLong, malformed, incomplete, policy, readBody}
+use Rattle.policies.specs.Policy.{Reading, tooLong, malformed, incomplete, policy, readBody}
 use Rattle.tlsa.specs.declared.Address.{Address}
 use Rattle.tlsa.specs.declared.Address.the-variants.{NoAliasSecure, NoAliasInsecure, AliasSecure, AliasFirstStepSecure, AliasFirstStepInsecure, Failed, NoAddress}
 use Rattle.tlsa.specs.declared.Lookup.{Lookup}
 use Rattle.tlsa.specs.declared.Lookup.the-variants as L
-use Rattle.tlsa.specs.Answer.{Answer, answerOf}
+use Rattle.tlsa.specs.Answer.{answerOf}
 use Rattle.certificates.specs.Facts.{Presented, presentedOf}
 use Rattle.certificates.specs.declared.Origin.{Origin}
 use Rattle.certificates.specs.declared.Origin.the-variants.{SecureMx, InsecureMx, NoMx}
 use Rattle.hosts.specs.declared.Numbers.{Numbers}
-use Rattle.hosts.specs.Facts.{HeldPolicy, Base, Handshake, established, failed, Facts, Full}
+use Rattle.hosts.specs.Facts.{HeldPolicy, Base, Handshake, established, failed, Facts}
 
 -- the numbers of the call, and its byte slices, in the boundary's order
 pub record Arguments : Type 0 where

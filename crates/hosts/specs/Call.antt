@@ -1,6 +1,6 @@
 -- Document 01: which arguments are accepted, and the answer of the call that judges a host.
 use Prim.Native.Nat.{ℕ}
-use mathlib.Core.Bool.{Bool, true, false, cond, not, _&&_, _||_}
+use mathlib.Core.Bool.{Bool, true, cond, not, _&&_, _||_}
 use mathlib.Core.List.{List, [], _∷_}
 use lib.Dec.{eqb, leb}
 use Rattle.lists.specs.Bytes.{within, all}
@@ -17,7 +17,7 @@ use Rattle.hosts.specs.declared.HostAnswer.{HostAnswer}
 use Rattle.hosts.specs.Facts.{Facts, later}
 use Rattle.hosts.specs.Tree.{Outcome, final, missing, walk, answersRead}
 use Rattle.hosts.specs.Rules.{rules}
-use Rattle.hosts.specs.Arguments.{Arguments, originOf, addressOf, isAlias, lookupOf, baseOf, factsOf}
+use Rattle.hosts.specs.Arguments.{Arguments, originOf, addressOf, isAlias, lookupOf, factsOf}
 
 -- a test that is asked only of what is supplied
 abbrev pub ifSupplied : Bool → Bool → Bool

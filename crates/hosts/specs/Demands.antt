@@ -1,5 +1,5 @@
 -- The letter's demands 2 and 3, of the answer of the call, over its arguments.
-use Prim.Native.Nat.{ℕ, _+_, _≤_, _<_, _^_}
+use Prim.Native.Nat.{ℕ, _+_, _≤_}
 use mathlib.Core.Path.{_≡_}
 use mathlib.Core.Logic.{_↔_}
 use mathlib.Core.Bool.{Bool, true, false, not, cond, _&&_, _||_}
@@ -12,9 +12,8 @@ use Rattle.tlsa.specs.declared.Address.the-variants.{NoAliasSecure, NoAliasInse
 use Rattle.tlsa.specs.Record.{short, usable}
 use Rattle.tlsa.specs.Answer.{Answer, absent, isFailed, secureRecords}
 use Rattle.hosts.specs.declared.HostAnswer.{HostAnswer}
-use Rattle.hosts.specs.declared.Numbers.{Numbers}
-use Rattle.hosts.specs.Facts.{Base, Handshake, established, failed, Place, first, second, Fact, tlsa, starttls, handshake, certificates, Value, Facts, Full, given, value, isGiven}
-use Rattle.hosts.specs.Tree.{Rules, Question, reached, isTlsa}
+use Rattle.hosts.specs.Facts.{Base, Handshake, established, failed, second, Fact, tlsa, starttls, handshake, certificates, Value, Facts, Full, given, value, isGiven}
+use Rattle.hosts.specs.Tree.{Question, reached, isTlsa}
 use Rattle.hosts.specs.Rules.{needsMtaSts, rules}
 use Rattle.hosts.specs.Arguments.{Arguments, baseOf, presentedIn, factsOf}
 use Rattle.hosts.specs.Call.{hostAnswer}

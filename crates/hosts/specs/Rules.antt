@@ -3,19 +3,17 @@ use Prim.Native.Nat.{ℕ}
 use mathlib.Core.Bool.{Bool, true, false, not, cond, _&&_, _||_}
 use mathlib.Core.List.{List, [], _∷_}
 use mathlib.Core.Option.{Option, none, some}
-use Rattle.lists.specs.Bytes.{any}
-use Rattle.names.specs.Name.{matchesName}
 use Rattle.clock.specs.Clock.{isLive}
 use Rattle.policies.specs.declared.Mode.{Mode}
 use Rattle.policies.specs.declared.Mode.the-variants as M
-use Rattle.policies.specs.Policy.{Policy, someMatches}
+use Rattle.policies.specs.Policy.{someMatches}
 use Rattle.tlsa.specs.declared.Needs.{Needs}
 use Rattle.tlsa.specs.declared.Needs.the-variants as N
 use Rattle.tlsa.specs.declared.Read.{Read}
 use Rattle.tlsa.specs.declared.Read.the-variants as R
 use Rattle.tlsa.specs.Address.{TlsaName, expandedName, hostName, questionOf, NamesOrVerdict, names, namesToTry}
 use Rattle.tlsa.specs.Address as A
-use Rattle.tlsa.specs.Answer.{Answer, secureRecords, readOf, needsOf}
+use Rattle.tlsa.specs.Answer.{secureRecords, readOf, needsOf}
 use Rattle.certificates.specs.Facts.{Presented}
 use Rattle.certificates.specs.Checks.{references, danePasses, showsHost}
 use Rattle.hosts.specs.Facts.{HeldPolicy, Base, Handshake, established, failed, Place, first, second, tlsa, starttls, handshake, certificates}
