@@ -34,11 +34,12 @@ run: examples
 	@echo; $(OUT)/host mta-sts
 	@echo; $(OUT)/relay 20:4 10:22 10:24
 
-# The C tests, then the layout of the source, then the proofs, the must-fail edits and the cases.
+# The C tests and the independent implementation, then the layout of the source, then the proofs, the must-fail edits and the cases.
 test: examples
 	@$(CC) $(CFLAGS) $(WARNINGS) $(SANITIZERS) -Iinclude tests/boundary.c $(ARCHIVE) -o $(OUT)/boundary
 	$(OUT)/boundary
 	tests/examples.sh $(OUT)
+	tests/independent/run target/staticlib $(OUT)/independent
 	$(RT) fmt --check
 	$(RT) ci
 

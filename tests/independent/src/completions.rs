@@ -1,0 +1,149 @@
+//! Document 01's demand 3, tried on the library alone: a verdict stands whatever the missing facts turn out to be, and a question
+//! is asked only while two ways to fill them in lead to two verdicts. No definition is compared here; the calls are held against
+//! each other.
+
+use crate::boundary::{Lender, Place};
+use crate::inputs::{self, list};
+use crate::random::Random;
+use crate::rules::{HostAnswer, HostCall, TlsaAnswer};
+
+fn is_verdict(number: u64) -> bool {
+    matches!(number, 1..=5 | 20..=27)
+}
+
+/// The call with each missing fact taken from another.
+fn filled(c: &HostCall, facts: &HostCall) -> HostCall {
+    let mut f = c.clone();
+    for i in c.tlsa_answers as usize..2 {
+        f.tlsa[i] = facts.tlsa[i].clone();
+    }
+    f.tlsa_answers = 2;
+    if f.starttls == 0 {
+        f.starttls = facts.starttls;
+    }
+    if f.handshake == 0 {
+        f.handshake = facts.handshake;
+    }
+    if f.certificates_given == 0 {
+        f.certificates_given = 1;
+        f.certificates = facts.certificates.clone();
+        f.certificate_lengths = facts.certificate_lengths.clone();
+        f.key_places = facts.key_places.clone();
+        f.digests = facts.digests.clone();
+        f.paths = facts.paths.clone();
+        f.trusted_root = facts.trusted_root;
+        f.dns_ids = facts.dns_ids.clone();
+        f.dns_id_lengths = facts.dns_id_lengths.clone();
+        f.common_name_given = facts.common_name_given;
+        f.common_name = facts.common_name.clone();
+    }
+    f
+}
+
+/// Facts for every place: the TLSA result, STARTTLS, the handshake, and no certificate.
+fn bare(tlsa: u64, starttls: u64, handshake: u64) -> HostCall {
+    let answer = TlsaAnswer { result: tlsa, ..Default::default() };
+    HostCall {
+        tlsa_answers: 2,
+        tlsa: [answer.clone(), answer],
+        starttls,
+        handshake,
+        certificates_given: 1,
+        trusted_root: 1,
+        common_name_given: 2,
+        ..Default::default()
+    }
+}
+
+/// Certificate facts that pass for the record: each form of both certificates is the record's data, cut or filled up.
+fn passing(c: &HostCall, record: &[u8], base: &[u8]) -> HostCall {
+    let data = record.get(3..).unwrap_or(b"");
+    let sized = |n: usize| {
+        let mut d = data.to_vec();
+        d.resize(n, 0);
+        d
+    };
+    let digests = [sized(32), sized(64), sized(32), sized(64)].concat();
+    let n = data.len() as u64;
+    let mut f = bare(3, 1, 1);
+    f.certificates = [data, data].concat();
+    f.certificate_lengths = list(&[n, n]);
+    f.key_places = list(&[0, n, 0, n]);
+    f.digests = [&digests[..], &digests].concat();
+    f.paths = list(&[2, 1]);
+    f.dns_ids = [&c.host[..], base].concat();
+    f.dns_id_lengths = list(&[c.host.len() as u64, base.len() as u64]);
+    f
+}
+
+fn is_usable(r: &[u8]) -> bool {
+    r.len() > 3 && (r[0] == 2 || r[0] == 3) && r[1] < 2 && (r[2] == 0 || (r[2] == 1 && r.len() == 35) || (r[2] == 2 && r.len() == 67))
+}
+
+/// The case's answer number, or what is wrong.
+pub fn run_case(lender: &mut Lender, seed: u64, case: u64) -> Result<u64, String> {
+    let mut r = Random::new(seed, 4, case);
+    let mut c = inputs::host(&mut r);
+    // Fewer facts than the generator gives.
+    match r.below(6) {
+        0 => (c.tlsa_answers, c.starttls, c.handshake, c.certificates_given) = (c.tlsa_answers.min(1), 0, 0, 0),
+        1 => (c.tlsa_answers, c.starttls, c.handshake, c.certificates_given) = (0, 0, 0, 0),
+        2 => (c.starttls, c.handshake, c.certificates_given) = (0, 0, 0),
+        3 => (c.handshake, c.certificates_given) = (0, 0),
+        4 => c.certificates_given = 0,
+        _ => {}
+    }
+    let mut ask = |c: &HostCall| -> HostAnswer { lender.judge_host(c, Place::Middle, false) };
+    let (number, questions) = ask(&c);
+    if number >= 40 {
+        return Ok(number);
+    }
+    // Any facts: a verdict stays; a question becomes a verdict.
+    for _ in 0..2 {
+        let facts = inputs::host(&mut r);
+        let mut full = filled(&c, &facts);
+        full.starttls = if full.starttls == 0 { r.between(1, 2) as u64 } else { full.starttls };
+        full.handshake = if full.handshake == 0 { r.between(1, 2) as u64 } else { full.handshake };
+        let then = ask(&full);
+        let fillers_refused = matches!(then.0, 64 | 65 | 67);
+        if is_verdict(number) && !fillers_refused && then != (number, questions) {
+            return Err(format!("verdict {number} with {questions} questions became {then:?} as more facts were given"));
+        }
+        if !is_verdict(then.0) && !fillers_refused {
+            return Err(format!("a full set answers {then:?}"));
+        }
+    }
+    // Two verdicts for each question.
+    let two = match number {
+        13 | 14 => Some((bare(4, 2, 2), bare(3, 2, 2))),
+        10 => Some((bare(3, 2, 2), bare(3, 1, 1))),
+        11 => Some((bare(3, 1, 2), bare(3, 1, 1))),
+        12 => {
+            let base = if c.address == 3 && questions == 1 { c.expanded.clone() } else { c.host.clone() };
+            let mut record: &[u8] = b"";
+            if questions > 0 && c.tlsa[questions as usize - 1].result == 1 {
+                let set = &c.tlsa[questions as usize - 1];
+                let mut rest = &set.records[..];
+                for l in set.lengths.chunks_exact(4) {
+                    let (one, after) = rest.split_at(u32::from_be_bytes([l[0], l[1], l[2], l[3]]) as usize);
+                    rest = after;
+                    if is_usable(one) {
+                        record = one;
+                    }
+                }
+            }
+            Some((bare(3, 1, 1), passing(&c, record, &base)))
+        }
+        _ => None,
+    };
+    if let Some((a, b)) = two {
+        let (x, y) = (ask(&filled(&c, &a)), ask(&filled(&c, &b)));
+        if !is_verdict(x.0) || !is_verdict(y.0) || x.0 == y.0 {
+            return Err(format!("question {number}, but the two full sets answer {x:?} and {y:?}"));
+        }
+        if number == 12 && !(3..=5).contains(&y.0) {
+            return Err(format!("facts made to pass answer {y:?}"));
+        }
+    }
+    Ok(number)
+}

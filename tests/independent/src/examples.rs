@@ -1,0 +1,152 @@
+//! Document 01's "Cases on both sides" and a few more, with their answers written down: they hold the rules here and the library
+//! to the paper itself, not only to each other.
+
+use crate::boundary::{Lender, Place};
+use crate::inputs::list;
+use crate::rules::{self, HostCall, TlsaAnswer};
+
+struct Check<'a> {
+    lender: &'a mut Lender,
+    passed: u64,
+}
+
+impl Check<'_> {
+    fn same<T: PartialEq + std::fmt::Debug>(&mut self, what: &str, wanted: T, ours: T, theirs: T) {
+        if ours != wanted || theirs != wanted {
+            println!("EXAMPLE {what}: wanted {wanted:?}, rules {ours:?}, library {theirs:?}");
+            std::process::exit(1);
+        }
+        self.passed += 1;
+    }
+
+    fn txt(&mut self, text: &str, wanted: (u64, u64, u64)) {
+        let rdata: Vec<u8> = [&[text.len() as u8], text.as_bytes()].concat();
+        let lengths = list(&[rdata.len() as u64]);
+        let (mut a, mut b) = ([0xee; 80], [0xee; 80]);
+        let ours = rules::read_txt(&rdata, &lengths, &mut a);
+        let theirs = self.lender.read_txt(&rdata, &lengths, &mut b, Place::Middle, false);
+        let mut output = [0xee; 80];
+        if wanted.0 == 6 || wanted.0 == 42 {
+            output[..text.len()].copy_from_slice(text.as_bytes());
+        }
+        self.same(text, (wanted, output), (ours, a), (theirs, b));
+    }
+
+    fn policy(&mut self, body: &str, wanted: (u64, u64, u64, u64)) {
+        let ours = rules::read_policy(body.as_bytes());
+        let theirs = self.lender.read_policy(body.as_bytes(), Place::BeforeGuard, true);
+        self.same(body, wanted, ours, theirs);
+    }
+
+    fn host(&mut self, what: &str, call: &HostCall, wanted: (u64, u64)) {
+        let ours = rules::judge_host(call);
+        let theirs = self.lender.judge_host(call, Place::BeforeGuard, true);
+        self.same(what, wanted, ours, theirs);
+    }
+
+    fn message(&mut self, preferences: &[u64], verdicts: &[u64], wanted: (u64, u64)) {
+        let (p, v) = (list(preferences), list(verdicts));
+        let ours = rules::next_host(1, &p, &v);
+        let theirs = self.lender.next_host(1, &p, &v, Place::BeforeGuard, true);
+        self.same("message", wanted, ours, theirs);
+    }
+}
+
+fn one_record(record: &[u8]) -> TlsaAnswer {
+    TlsaAnswer { result: 1, lengths: list(&[record.len() as u64]), records: record.to_vec() }
+}
+
+/// A plain host with a secure answer of no records and no policy; nothing more given.
+fn plain() -> HostCall {
+    HostCall {
+        clock: 605_799,
+        next_hop: b"example.com".to_vec(),
+        origin: 1,
+        host: b"mail.example.com".to_vec(),
+        address: 1,
+        policy_given: 2,
+        tlsa_answers: 1,
+        tlsa: [TlsaAnswer { result: 1, ..Default::default() }, TlsaAnswer::default()],
+        ..Default::default()
+    }
+}
+
+pub fn run(lender: &mut Lender) -> u64 {
+    let mut c = Check { lender, passed: 0 };
+    c.txt("v=STSv1; id=20160831085700Z;", (6, 12, 15));
+    c.txt("v=STSv1; id=20160831085700Z", (6, 12, 15));
+    c.txt("v=STSv1; id=20160831085700Z; ;", (42, 0, 0));
+    c.txt("v=STSv1;id=abcdefghijklmnopqrstuvwxyz012345", (6, 11, 32));
+    c.txt("v=STSv1;id=abcdefghijklmnopqrstuvwxyz0123456", (42, 0, 0));
+    c.txt("v=STSv1 ;id=a", (40, 0, 0));
+    c.txt("v=STSv1;", (42, 0, 0));
+    c.txt("v=STSv1; id=a ", (42, 0, 0));
+    c.txt("v=STSv1; id=a \t; ", (6, 12, 1));
+
+    c.policy("version: STSv1\nmode: enforce\nmx: *.example.com\nmax_age: 604800\n", (7, 1, 604_800, 1));
+    c.policy("version: STSv1\r\nmode: none\r\nmax_age: 9999999999", (7, 3, 31_557_600, 0));
+    c.policy("version: STSv1\nmode: testing\nmax_age: 1\n", (52, 0, 0, 0));
+    c.policy("version: STSv1\nmode: none\nmax_age: 1\r", (51, 0, 0, 0));
+    c.policy("version: STSv1\n\nmode: none\nmax_age: 1\n", (51, 0, 0, 0));
+    c.policy("", (51, 0, 0, 0));
+
+    let with = |base: &HostCall, change: &dyn Fn(&mut HostCall)| {
+        let mut call = base.clone();
+        change(&mut call);
+        call
+    };
+    // "secure, zero records, plain host, no policy, not offered: 1. The same with only a usage 1 record: 24. That record and TLS
+    // established: 2."
+    c.host("zero records, not offered", &with(&plain(), &|c| c.starttls = 2), (1, 1));
+    let unusable = with(&plain(), &|c| c.tlsa[0] = one_record(&[1, 0, 0, 7]));
+    c.host("usage 1, not offered", &with(&unusable, &|c| c.starttls = 2), (24, 1));
+    c.host("usage 1, established", &with(&unusable, &|c| (c.starttls, c.handshake) = (1, 1)), (2, 1));
+    c.host("usage 1, handshake failed", &with(&unusable, &|c| (c.starttls, c.handshake) = (1, 2)), (25, 1));
+    // Questions.
+    c.host("nothing known", &with(&plain(), &|c| c.tlsa_answers = 0), (14, 0));
+    c.host("TLSA known", &plain(), (10, 1));
+    c.host("offered", &with(&plain(), &|c| c.starttls = 1), (11, 1));
+    c.host("handshake without STARTTLS", &with(&plain(), &|c| c.handshake = 1), (66, 0));
+    // The patterns, and the time left, by way of 23.
+    let policy = |pattern: &str, host: &str, clock: u64| {
+        with(&plain(), &|c| {
+            c.policy_given = 1;
+            c.policy = format!("version: STSv1\nmode: enforce\nmx: {pattern}\nmax_age: 604800\n").into_bytes();
+            (c.fetched, c.clock) = (1000, clock);
+            c.host = host.as_bytes().to_vec();
+        })
+    };
+    c.host("*.example.com, mail", &policy("*.example.com", "mail.example.com", 605_799), (10, 1));
+    c.host("*.example.com, bare", &policy("*.example.com", "example.com", 605_799), (23, 0));
+    c.host("*.example.com, two labels", &policy("*.example.com", "a.b.example.com", 605_799), (23, 0));
+    c.host("stale", &policy("*.example.com", "a.b.example.com", 605_800), (10, 1));
+    // "record `3 1 1` with the leaf's key digest, live enforce policy with a pattern for the host, no DNS-ID: 27."
+    let both = with(&policy("*.example.com", "mail.example.com", 605_799), &|c| {
+        c.tlsa[0] = one_record(&[&[3, 1, 1][..], &[4; 32]].concat());
+        (c.starttls, c.handshake, c.certificates_given) = (1, 1, 1);
+        c.certificates = b"certificate".to_vec();
+        c.certificate_lengths = list(&[11]);
+        c.key_places = list(&[2, 3]);
+        c.digests = [vec![1; 32], vec![2; 64], vec![4; 32], vec![5; 64]].concat();
+        c.paths = list(&[1]);
+        (c.trusted_root, c.common_name_given) = (1, 2);
+    });
+    c.host("no DNS-ID", &both, (27, 1));
+    let named = with(&both, &|c| {
+        c.dns_ids = b"MAIL.example.com".to_vec();
+        c.dns_id_lengths = list(&[16]);
+    });
+    c.host("both", &named, (5, 1));
+    c.host("DANE alone", &with(&both, &|c| c.policy_given = 2), (3, 1));
+    c.host("MTA-STS alone", &with(&named, &|c| c.tlsa[0].result = 3), (4, 1));
+    c.host("a policy rescues no mismatch", &with(&named, &|c| c.tlsa[0].records[34] = 5), (26, 1));
+    c.host("no certificate", &with(&named, &|c| {
+        (c.certificates, c.certificate_lengths, c.key_places, c.digests, c.paths) = Default::default()
+    }), (26, 1));
+
+    // "Preferences A 20, B 10, C 10 and verdicts A 9, B 22, C 24: 8 with A. With C 9: 8 with C. With A 26, B 22, C 24: 31."
+    c.message(&[20, 10, 10], &[9, 22, 24], (8, 0));
+    c.message(&[20, 10, 10], &[9, 22, 9], (8, 2));
+    c.message(&[20, 10, 10], &[26, 22, 24], (31, 0));
+    c.passed
+}
