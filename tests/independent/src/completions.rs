@@ -1,4 +1,4 @@
-//! Document 01's demand 3, tried on the library alone: a verdict stands whatever the missing facts turn out to be, and a question
+//! The letter's demand 3, tried on the library alone: a verdict stands whatever the missing facts turn out to be, and a question
 //! is asked only while two ways to fill them in lead to two verdicts. No definition is compared here; the calls are held against
 //! each other.
 
