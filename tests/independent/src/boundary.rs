@@ -4,33 +4,10 @@
 //! one before a page that can't be touched (reading past it stops the program), after such a page, or in the middle, at an odd
 //! place. After the call each copy must still hold what it held; around the output stand canary bytes.
 
-use crate::rules::{HostAnswer, HostCall, MessageAnswer, PolicyAnswer, TxtAnswer};
+use independent_rules::exports::{Host, Message, Policy, Txt};
+use independent_rules::rules::{HostAnswer, HostCall, MessageAnswer, PolicyAnswer, TxtAnswer};
 use std::cell::Cell;
 use std::ffi::c_void;
-
-#[repr(C)]
-struct Txt {
-    number: u64,
-    id_start: u64,
-    id_length: u64,
-}
-#[repr(C)]
-struct Policy {
-    number: u64,
-    mode: u64,
-    lifetime: u64,
-    mx_count: u64,
-}
-#[repr(C)]
-struct Host {
-    number: u64,
-    tlsa_questions: u64,
-}
-#[repr(C)]
-struct Message {
-    number: u64,
-    position: u64,
-}
 
 #[rustfmt::skip]
 #[link(name = "tweedstork", kind = "static")]

@@ -5,7 +5,7 @@
 use crate::boundary::{Lender, Place};
 use crate::inputs::{self, list};
 use crate::random::Random;
-use crate::rules::{HostAnswer, HostCall, TlsaAnswer};
+use independent_rules::rules::{HostAnswer, HostCall, TlsaAnswer};
 
 fn is_verdict(number: u64) -> bool {
     matches!(number, 1..=5 | 20..=27)

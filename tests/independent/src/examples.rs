@@ -3,7 +3,7 @@
 
 use crate::boundary::{Lender, Place};
 use crate::inputs::list;
-use crate::rules::{self, HostCall, TlsaAnswer};
+use independent_rules::rules::{self, HostCall, TlsaAnswer};
 
 struct Check<'a> {
     lender: &'a mut Lender,

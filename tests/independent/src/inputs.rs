@@ -1,7 +1,7 @@
 //! Structured random inputs: mostly plausible, then damaged, and at the limits.
 
 use crate::random::Random;
-use crate::rules::{HostCall, TlsaAnswer};
+use independent_rules::rules::{HostCall, TlsaAnswer};
 
 pub fn list(numbers: &[u64]) -> Vec<u8> {
     numbers.iter().flat_map(|&n| (n as u32).to_be_bytes()).collect()

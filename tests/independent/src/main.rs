@@ -9,9 +9,9 @@ mod completions;
 mod examples;
 mod inputs;
 mod random;
-mod rules;
 
 use boundary::{Lender, Place};
+use independent_rules::rules;
 use random::Random;
 use std::collections::BTreeMap;
 use std::fmt::Debug;

@@ -2,6 +2,8 @@
 //! library: plain safe Rust over whole values, with no thought for speed. Comments quote document 01; "reading n" is the
 //! boundary page's list.
 
+use std::ops::Deref;
+
 /// The answers, as (number, other fields).
 pub type TxtAnswer = (u64, u64, u64);
 pub type PolicyAnswer = (u64, u64, u64, u64);
@@ -276,39 +278,39 @@ fn policy_field(line: &[u8]) -> Option<(&[u8], &[u8])> {
 // -------------------------------------------------------------------------------------------------------------------- host
 
 #[derive(Clone, PartialEq, Debug, Default)]
-pub struct TlsaAnswer {
+pub struct TlsaAnswer<B = Vec<u8>> {
     pub result: u64,
-    pub lengths: Vec<u8>,
-    pub records: Vec<u8>,
+    pub lengths: B,
+    pub records: B,
 }
 
-/// The arguments of a host call, named as on the boundary page.
+/// The arguments of a host call, named as on the boundary page; the bytes owned, or lent.
 #[derive(Clone, PartialEq, Debug, Default)]
-pub struct HostCall {
+pub struct HostCall<B = Vec<u8>> {
     pub clock: u64,
-    pub next_hop: Vec<u8>,
+    pub next_hop: B,
     pub origin: u64,
-    pub host: Vec<u8>,
+    pub host: B,
     pub address: u64,
-    pub expanded: Vec<u8>,
+    pub expanded: B,
     pub policy_given: u64,
-    pub policy: Vec<u8>,
+    pub policy: B,
     pub fetched: u64,
     pub tlsa_answers: u64,
-    pub tlsa: [TlsaAnswer; 2],
+    pub tlsa: [TlsaAnswer<B>; 2],
     pub starttls: u64,
     pub handshake: u64,
     pub certificates_given: u64,
-    pub certificates: Vec<u8>,
-    pub certificate_lengths: Vec<u8>,
-    pub key_places: Vec<u8>,
-    pub digests: Vec<u8>,
-    pub paths: Vec<u8>,
+    pub certificates: B,
+    pub certificate_lengths: B,
+    pub key_places: B,
+    pub digests: B,
+    pub paths: B,
     pub trusted_root: u64,
-    pub dns_ids: Vec<u8>,
-    pub dns_id_lengths: Vec<u8>,
+    pub dns_ids: B,
+    pub dns_id_lengths: B,
     pub common_name_given: u64,
-    pub common_name: Vec<u8>,
+    pub common_name: B,
 }
 
 /// One certificate with what is known of it.
@@ -343,7 +345,7 @@ struct CertificateFacts<'a> {
 
 const LAST_CLOCK: u64 = 253_402_300_799;
 
-pub fn judge_host(call: &HostCall) -> HostAnswer {
+pub fn judge_host<B: Deref<Target = [u8]>>(call: &HostCall<B>) -> HostAnswer {
     match judged(call) {
         Ok(answer) => answer,
         Err(refusal) => (refusal, 0),
@@ -351,7 +353,7 @@ pub fn judge_host(call: &HostCall) -> HostAnswer {
 }
 
 /// A verdict or question with the count, or the number of a refusal.
-fn judged(call: &HostCall) -> Result<HostAnswer, u64> {
+fn judged<B: Deref<Target = [u8]>>(call: &HostCall<B>) -> Result<HostAnswer, u64> {
     // "Argument checks come first: 67, 62, 60, 61 (...), 50 to 52, 64, 65 for everything supplied"
     if !codes_are_choices(call) {
         return Err(67);
@@ -474,7 +476,7 @@ fn judged(call: &HostCall) -> Result<HostAnswer, u64> {
 }
 
 /// "an input code or yes/no number outside its named choices, or over two TLSA answers"; what isn't supplied is not looked at.
-fn codes_are_choices(call: &HostCall) -> bool {
+fn codes_are_choices<B: Deref<Target = [u8]>>(call: &HostCall<B>) -> bool {
     let always = (1..=3).contains(&call.origin)
         && (1..=7).contains(&call.address)
         && (1..=2).contains(&call.policy_given)
@@ -501,7 +503,7 @@ enum TlsaFact<'a> {
 }
 
 /// "Limits: 32 records, 4,096 bytes each, lengths that sum, else 64." The records count only in a secure answer.
-fn tlsa_answer(given: &TlsaAnswer) -> Option<TlsaFact<'_>> {
+fn tlsa_answer<B: Deref<Target = [u8]>>(given: &TlsaAnswer<B>) -> Option<TlsaFact<'_>> {
     match given.result {
         1 => {
             let records = parts(&given.records, &given.lengths)?;
@@ -527,7 +529,7 @@ fn is_usable(record: &[u8]) -> bool {
 
 /// "up to 8 certificates, leaf first, each up to 16,384 bytes and 65,536 in all; (...) up to 64 DNS-IDs and one CN (or none), each
 /// of at most 255 bytes; (...) Places must lie inside and lengths must sum. Else 65."
-fn certificate_facts(call: &HostCall) -> Option<CertificateFacts<'_>> {
+fn certificate_facts<B: Deref<Target = [u8]>>(call: &HostCall<B>) -> Option<CertificateFacts<'_>> {
     let wholes = parts(&call.certificates, &call.certificate_lengths)?;
     if wholes.len() > 8 || wholes.iter().any(|c| c.len() > 16_384) || call.certificates.len() > 65_536 {
         return None;
