@@ -1,17 +1,22 @@
 # make run    builds the library and shows it at work
 # make test   runs every test; its last line is rt's 'N passed, M failed'
+# make install PREFIX=/usr/local
+#             header, archive, pkg-config file and man page
 # make clean  removes what the others made
 
 RT ?= rt
 CC ?= cc
+CXX ?= c++
 CFLAGS ?= -O2 -g
 WARNINGS = -std=c99 -Wall -Wextra -Wpedantic -Werror
 SANITIZERS = -fsanitize=address,undefined -fno-sanitize-recover=all
 
+PREFIX ?= /usr/local
+
 ARCHIVE = target/staticlib/libtweedstork.a
 OUT = target/c
 
-.PHONY: all run test clean toolchain archive examples
+.PHONY: all run test install clean toolchain archive examples
 all: archive
 
 toolchain:
@@ -25,23 +30,29 @@ archive: toolchain
 
 # The example programs.
 examples: archive
-	@for example in relay discover host; do $(CC) $(CFLAGS) $(WARNINGS) -Iinclude examples/$$example.c $(ARCHIVE) -o $(OUT)/$$example || exit 1; done
+	@$(CC) $(CFLAGS) $(WARNINGS) -Iinclude examples/discover.c $(ARCHIVE) -o $(OUT)/discover
+	@$(CC) $(CFLAGS) $(WARNINGS) -Iinclude examples/relay.c examples/scenario.c $(ARCHIVE) -o $(OUT)/relay
 
 run: examples
 	@echo; $(OUT)/discover examples/domain/records.txt examples/domain/policy.txt
-	@echo; $(OUT)/host dane
-	@echo; $(OUT)/host stripped
-	@echo; $(OUT)/host mta-sts
-	@echo; $(OUT)/relay 20:4 10:22 10:24
+	@echo; $(OUT)/relay examples/scenarios/*.txt
 
 # The C tests and the independent implementation, then the layout of the source, then the proofs, the must-fail edits and the cases.
 test: examples
+	@echo '#include "tweedstork.h"' | $(CC) $(WARNINGS) -Iinclude -x c -fsyntax-only -
+	@echo '#include "tweedstork.h"' | $(CXX) -Wall -Wextra -Wpedantic -Werror -Iinclude -x c++ -fsyntax-only -
+	@$(CC) $(CFLAGS) $(WARNINGS) $(SANITIZERS) -Iinclude tests/conveniences.c -o $(OUT)/conveniences
+	$(OUT)/conveniences
 	@$(CC) $(CFLAGS) $(WARNINGS) $(SANITIZERS) -Iinclude tests/boundary.c $(ARCHIVE) -o $(OUT)/boundary
 	$(OUT)/boundary
 	tests/examples.sh $(OUT)
+	CC='$(CC)' tests/install.sh $(ARCHIVE)
 	tests/independent/run target/staticlib $(OUT)/independent
 	$(RT) fmt --check
 	$(RT) ci
+
+install: archive
+	@packaging/install $(ARCHIVE) $(PREFIX)
 
 clean:
 	rm -rf target

@@ -59,10 +59,7 @@ static int show_records(const uint8_t *text, size_t length)
         const uint8_t *end = memchr(text + at, '\n', length - at);
         size_t stop = end == NULL ? length : (size_t)(end - text);
         size_t rdata = put_rdata(rdatas + rdatas_length, text + at, stop - at);
-        lengths[records * 4] = (uint8_t)(rdata >> 24);
-        lengths[records * 4 + 1] = (uint8_t)(rdata >> 16);
-        lengths[records * 4 + 2] = (uint8_t)(rdata >> 8);
-        lengths[records * 4 + 3] = (uint8_t)rdata;
+        tweedstork_put_number(lengths, records, (uint32_t)rdata);
         rdatas_length += rdata;
         records++;
         at = stop + 1;

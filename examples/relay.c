@@ -1,60 +1,187 @@
 /*
- * A relay's way through a message's hosts: it asks which host to try, tries it, and asks again with what it learnt.
+ * A relay's whole way with a message. It asks which host to try, then what to do with that host; what the library asks for it
+ * learns from the network, and asks again, until the library has a verdict. Instead of a network there is a scenario, a text
+ * file of what the network would answer (examples/scenarios).
  *
- * Usage: relay PREFERENCE:VERDICT ...
- * Each argument is a host: its MX preference, and the verdict that it will get when it is tried (1 to 5, 20 to 27).
+ * Usage: relay SCENARIO ...
  */
 #include <inttypes.h>
 #include <stdio.h>
-#include <stdlib.h>
 
+#include "scenario.h"
 #include "tweedstork.h"
 
-#define HOSTS 32
-
-static void put_number(uint8_t *list, size_t place, uint32_t number)
+static struct tweedstork_slice slice(const struct scenario_bytes *bytes)
 {
-    list[place * 4] = (uint8_t)(number >> 24);
-    list[place * 4 + 1] = (uint8_t)(number >> 16);
-    list[place * 4 + 2] = (uint8_t)(number >> 8);
-    list[place * 4 + 3] = (uint8_t)number;
+    struct tweedstork_slice slice = {bytes->bytes, bytes->length};
+    return slice;
+}
+
+/* What the relay knows of a host before it asks. Everything else is zero: not learnt yet. */
+static struct tweedstork_host_facts first_facts(const struct scenario *s, const struct scenario_host *host)
+{
+    struct tweedstork_host_facts facts = {0};
+
+    facts.clock = s->clock;
+    facts.next_hop = slice(&s->next_hop);
+    facts.origin = s->origin;
+    facts.host = slice(&host->name);
+    facts.address = host->address;
+    facts.expanded = slice(&host->expanded);
+    facts.policy_given = s->policy_given;
+    facts.policy = slice(&s->policy);
+    facts.fetched = s->fetched;
+    return facts;
+}
+
+/* TLSA lookup: one more answer, in the order asked for. */
+static void learn_tlsa(const struct scenario_tlsa *answer, struct tweedstork_host_facts *facts)
+{
+    static const char *const results[] = {"nothing in the scenario", "secure", "insecure", "absent", "lookup failed"};
+    size_t at = (size_t)facts->tlsa_answers++;
+
+    facts->tlsa[at].result = answer->result;
+    facts->tlsa[at].lengths = slice(&answer->records.lengths);
+    facts->tlsa[at].records = slice(&answer->records.joined);
+    printf("  network: %s, records: %zu\n", results[answer->result], answer->records.lengths.length / 4);
+}
+
+/* TLS: what the server showed, and what the relay's TLS library says of it. */
+static void learn_certificates(const struct scenario_host *host, struct tweedstork_host_facts *facts)
+{
+    facts->certificates_given = TWEEDSTORK_CERTIFICATES_GIVEN;
+    facts->certificates = slice(&host->certificates.joined);
+    facts->certificate_lengths = slice(&host->certificates.lengths);
+    facts->key_places = slice(&host->key_places);
+    facts->digests = slice(&host->digests);
+    facts->paths = slice(&host->paths);
+    facts->trusted_root = host->trusted_root;
+    facts->dns_ids = slice(&host->dns_ids.joined);
+    facts->dns_id_lengths = slice(&host->dns_ids.lengths);
+    facts->common_name_given = host->common_name_given;
+    facts->common_name = slice(&host->common_name);
+    printf("  network: certificates: %zu, DNS-IDs: %zu, trusted root: %s\n", host->certificates.lengths.length / 4,
+           host->dns_ids.lengths.length / 4, host->trusted_root == TWEEDSTORK_YES ? "yes" : "no");
+}
+
+/* Learns the fact that the library asks for. Returns 0 where it asks for none. */
+static int learn(uint64_t question, const struct scenario_host *host, struct tweedstork_host_facts *facts)
+{
+    switch (question) {
+    case TWEEDSTORK_ASK_TLSA_EXPANDED:
+        learn_tlsa(&host->at_expanded, facts);
+        return 1;
+    case TWEEDSTORK_ASK_TLSA_HOST:
+        learn_tlsa(&host->at_host, facts);
+        return 1;
+    case TWEEDSTORK_ASK_STARTTLS:
+        facts->starttls = host->starttls;
+        printf("  network: %s\n", host->starttls == TWEEDSTORK_STARTTLS_OFFERED ? "offered" : "not offered");
+        return 1;
+    case TWEEDSTORK_ASK_HANDSHAKE:
+        facts->handshake = host->handshake;
+        printf("  network: %s\n", host->handshake == TWEEDSTORK_ESTABLISHED ? "established" : "failed");
+        return 1;
+    case TWEEDSTORK_ASK_CERTIFICATES:
+        learn_certificates(host, facts);
+        return 1;
+    default:
+        return 0;
+    }
+}
+
+/* A host's verdict: ask, learn, ask again. The library asks for each fact at most once, so this ends. */
+static uint64_t judge(const struct scenario *s, const struct scenario_host *host)
+{
+    struct tweedstork_host_facts facts = first_facts(s, host);
+    uint64_t answer, before = 0;
+
+    for (;;) {
+        answer = tweedstork_judge_facts(&facts).number;
+        printf("  library %" PRIu64 ": %s\n", answer, tweedstork_answer_words(answer));
+        if (answer == before) {
+            fflush(stdout);
+            fprintf(stderr, "relay: the scenario doesn't say it\n");
+            return 0;
+        }
+        before = answer;
+        if (!learn(answer, host, &facts))
+            return answer;
+    }
+}
+
+/* What the relay then does. Only 1 to 5 let a message go. */
+static void act(uint64_t answer, const struct scenario_host *host)
+{
+    const char *how = NULL;
+
+    switch (answer) {
+    case TWEEDSTORK_CLEARTEXT:
+        how = "in cleartext";
+        break;
+    case TWEEDSTORK_ENCRYPTED:
+        how = "over TLS, whoever the server is";
+        break;
+    case TWEEDSTORK_DANE:
+    case TWEEDSTORK_MTA_STS:
+    case TWEEDSTORK_DANE_AND_MTA_STS:
+        how = "over the TLS connection whose certificate passed";
+        break;
+    }
+    if (how != NULL)
+        printf("relay: sends the message to %.*s, %s\n", (int)host->name.length, (const char *)host->name.bytes, how);
+    else
+        printf("relay: keeps the message and tries again later\n");
+}
+
+/* A message: host after host, until the library names one to deliver to or says to wait. Returns the last answer. */
+static uint64_t deliver(const struct scenario *s)
+{
+    uint8_t preferences[4 * SCENARIO_HOSTS], verdicts[4 * SCENARIO_HOSTS];
+    struct tweedstork_message_answer answer;
+    uint64_t verdict;
+
+    for (size_t i = 0; i < s->host_count; i++) {
+        tweedstork_put_number(preferences, i, s->hosts[i].preference);
+        tweedstork_put_number(verdicts, i, TWEEDSTORK_NOT_TRIED);
+    }
+    for (;;) {
+        answer = tweedstork_next_host(s->mx_lookup, preferences, 4 * s->host_count, verdicts, 4 * s->host_count);
+        printf("library %" PRIu64 ": %s", answer.number, tweedstork_answer_words(answer.number));
+        if (answer.number != TWEEDSTORK_TRY_HOST)
+            break;
+        const struct scenario_host *host = &s->hosts[answer.position];
+        printf(": %.*s\n", (int)host->name.length, (const char *)host->name.bytes);
+        verdict = judge(s, host);
+        if (verdict == 0 || verdict > TWEEDSTORK_NO_HOST_LEFT) /* a refusal: what the relay passed is wrong */
+            return verdict;
+        tweedstork_put_number(verdicts, (size_t)answer.position, (uint32_t)verdict);
+    }
+    printf("\n");
+    act(answer.number, &s->hosts[answer.position]);
+    return answer.number;
 }
 
 int main(int argc, char **argv)
 {
-    uint8_t preferences[HOSTS * 4], verdicts[HOSTS * 4];
-    uint32_t outcome[HOSTS];
-    size_t hosts = (size_t)argc - 1;
+    static struct scenario s;
 
-    if (argc < 2 || hosts > HOSTS) {
-        fprintf(stderr, "usage: relay PREFERENCE:VERDICT ... (1 to %d hosts)\n", HOSTS);
+    if (argc < 2) {
+        fprintf(stderr, "usage: relay SCENARIO ...\n");
         return 2;
     }
-    for (size_t i = 0; i < hosts; i++) {
-        uint32_t preference;
-        if (sscanf(argv[i + 1], "%" SCNu32 ":%" SCNu32, &preference, &outcome[i]) != 2) {
-            fprintf(stderr, "relay: '%s' is not PREFERENCE:VERDICT\n", argv[i + 1]);
-            return 2;
-        }
-        put_number(preferences, i, preference);
-        put_number(verdicts, i, TWEEDSTORK_NOT_TRIED);
-        printf("host %zu has preference %" PRIu32 "\n", i, preference);
+    if (tweedstork_version() != TWEEDSTORK_VERSION_NUMBER) {
+        fprintf(stderr, "relay: the archive has version %" PRIu64 ", the header %d\n", tweedstork_version(), TWEEDSTORK_VERSION_NUMBER);
+        return 2;
     }
-    for (;;) {
-        struct tweedstork_message_answer answer = tweedstork_next_host(TWEEDSTORK_MX_ANSWERED, preferences, hosts * 4, verdicts, hosts * 4);
-        if (answer.number != TWEEDSTORK_TRY_HOST) {
-            printf("answer %" PRIu64 ": %s", answer.number, tweedstork_answer_words(answer.number));
-            if (answer.number <= TWEEDSTORK_DANE_AND_MTA_STS)
-                printf(", to host %" PRIu64, answer.position);
-            printf("\n");
-            return answer.number < TWEEDSTORK_BAD_HOST_LIST ? 0 : 1;
-        }
-        uint32_t learnt = outcome[answer.position];
-        printf("answer %d: try host %" PRIu64 "; it gets verdict %" PRIu32 " (%s)\n", TWEEDSTORK_TRY_HOST, answer.position, learnt, tweedstork_answer_words(learnt));
-        if (learnt == TWEEDSTORK_NOT_TRIED) {
-            fprintf(stderr, "relay: a host that was tried has another verdict than %d\n", TWEEDSTORK_NOT_TRIED);
+    for (int i = 1; i < argc; i++) {
+        uint64_t answer;
+        if (!scenario_read(argv[i], &s))
             return 2;
-        }
-        put_number(verdicts, (size_t)answer.position, learnt);
+        printf("%s%s: a message to %.*s\n", i > 1 ? "\n" : "", argv[i], (int)s.next_hop.length, (const char *)s.next_hop.bytes);
+        answer = deliver(&s);
+        if (answer == 0 || answer > TWEEDSTORK_NO_HOST_LEFT)
+            return 1;
     }
+    return 0;
 }

@@ -27,6 +27,13 @@
 extern "C" {
 #endif
 
+/* The version of this header. A number that another version gave a meaning to is never given a second one. */
+#define TWEEDSTORK_VERSION "1.0.0"
+#define TWEEDSTORK_VERSION_NUMBER 10000 /* major * 10000 + minor * 100 + patch */
+
+/* The version of the archive; it equals TWEEDSTORK_VERSION_NUMBER where header and archive belong together. */
+uint64_t tweedstork_version(void);
+
 /* The answer numbers. Zero is none of them: it means that nobody answered. */
 enum tweedstork_number {
     /* verdicts on a host: deliver */
@@ -297,6 +304,85 @@ struct tweedstork_message_answer tweedstork_next_host(
     uint64_t mx_lookup,
     const uint8_t *preferences, size_t preferences_length,
     const uint8_t *verdicts, size_t verdicts_length);
+
+/*
+ * Conveniences, in C and so not proved; tests/conveniences.c tests them.
+ */
+
+/* Writes a number at its place in a list of numbers: four bytes, the highest first. */
+static inline void tweedstork_put_number(uint8_t *list, size_t place, uint32_t number)
+{
+    list[4 * place] = (uint8_t)(number >> 24);
+    list[4 * place + 1] = (uint8_t)(number >> 16);
+    list[4 * place + 2] = (uint8_t)(number >> 8);
+    list[4 * place + 3] = (uint8_t)number;
+}
+
+struct tweedstork_slice {
+    const uint8_t *bytes;
+    size_t length;
+};
+
+/* The arguments of tweedstork_judge_host by name. A fact that isn't learnt yet is left zero. */
+struct tweedstork_host_facts {
+    uint64_t clock;
+    struct tweedstork_slice next_hop;
+    uint64_t origin;                        /* enum tweedstork_origin */
+    struct tweedstork_slice host;
+    uint64_t address;                       /* enum tweedstork_address */
+    struct tweedstork_slice expanded;
+    uint64_t policy_given;                  /* enum tweedstork_policy_given */
+    struct tweedstork_slice policy;
+    uint64_t fetched;
+    uint64_t tlsa_answers;
+    struct {
+        uint64_t result;                    /* enum tweedstork_tlsa_result */
+        struct tweedstork_slice lengths, records;
+    } tlsa[2];
+    uint64_t starttls;                      /* enum tweedstork_starttls */
+    uint64_t handshake;                     /* enum tweedstork_handshake */
+    uint64_t certificates_given;            /* enum tweedstork_certificates_given */
+    struct tweedstork_slice certificates, certificate_lengths, key_places, digests, paths;
+    uint64_t trusted_root;                  /* TWEEDSTORK_YES or TWEEDSTORK_NO */
+    struct tweedstork_slice dns_ids, dns_id_lengths;
+    uint64_t common_name_given;             /* TWEEDSTORK_YES or TWEEDSTORK_NO */
+    struct tweedstork_slice common_name;
+};
+
+/* tweedstork_judge_host on these facts. */
+static inline struct tweedstork_host_answer tweedstork_judge_facts(const struct tweedstork_host_facts *facts)
+{
+    return tweedstork_judge_host(
+        facts->clock,
+        facts->next_hop.bytes, facts->next_hop.length,
+        facts->origin,
+        facts->host.bytes, facts->host.length,
+        facts->address,
+        facts->expanded.bytes, facts->expanded.length,
+        facts->policy_given,
+        facts->policy.bytes, facts->policy.length,
+        facts->fetched,
+        facts->tlsa_answers,
+        facts->tlsa[0].result,
+        facts->tlsa[0].lengths.bytes, facts->tlsa[0].lengths.length,
+        facts->tlsa[0].records.bytes, facts->tlsa[0].records.length,
+        facts->tlsa[1].result,
+        facts->tlsa[1].lengths.bytes, facts->tlsa[1].lengths.length,
+        facts->tlsa[1].records.bytes, facts->tlsa[1].records.length,
+        facts->starttls,
+        facts->handshake,
+        facts->certificates_given,
+        facts->certificates.bytes, facts->certificates.length,
+        facts->certificate_lengths.bytes, facts->certificate_lengths.length,
+        facts->key_places.bytes, facts->key_places.length,
+        facts->digests.bytes, facts->digests.length,
+        facts->paths.bytes, facts->paths.length,
+        facts->trusted_root,
+        facts->dns_ids.bytes, facts->dns_ids.length,
+        facts->dns_id_lengths.bytes, facts->dns_id_lengths.length,
+        facts->common_name_given,
+        facts->common_name.bytes, facts->common_name.length);
+}
 
 #ifdef __cplusplus
 }

@@ -18,12 +18,42 @@ expect() { # expect LAST-LINE PROGRAM ARGUMENT..
     fi
 }
 
-# document 01, "A message's hosts"
-expect 'answer 4: deliver authenticated by MTA-STS, to host 0' relay 20:4 10:22 10:24
-expect 'answer 2: deliver encrypted, unauthenticated, to host 2' relay 20:4 10:22 10:2
-expect 'answer 31: delay: every host is a "next host"' relay 20:26 10:22 10:24
-expect 'answer 63: refused: bad host list' relay 65536:1
-expect "relay: '10' is not PREFERENCE:VERDICT" relay 10
+# Each scenario of examples/scenarios: the numbers that the library answers with, one after another, by document 01.
+scenario() { # scenario NAME NUMBERS
+    local got
+    got=$("$programs/relay" "examples/scenarios/$1.txt" | grep -o 'library [0-9]*:' | tr -dc '0-9\n' | paste -sd' ') || true
+    if [ "$got" != "$2" ]; then
+        echo "relay examples/scenarios/$1.txt: expected $2, got $got"
+        failed=1
+    fi
+    scenarios=$((scenarios + 1))
+}
+
+scenarios=0
+scenario dane '8 14 10 11 12 3 3'
+scenario mta-sts '8 10 11 12 4 4'
+scenario both '8 14 10 11 12 5 5'
+scenario stripped '8 14 10 24 8 14 10 11 12 3 3'
+scenario tlsa-failed '8 14 22 31'
+scenario stale-policy '8 10 11 2 2'
+scenario wrong-certificate '8 10 11 12 27 8 23 31'
+scenario wrong-key '8 13 10 11 12 26 31'
+scenario cleartext '8 10 1 1'
+scenario mx-failed '30'
+if [ "$scenarios" -ne "$(ls examples/scenarios | wc -l)" ]; then
+    echo "examples/scenarios has a file that isn't tested"
+    failed=1
+fi
+expect 'relay: sends the message to backup.example.com, over the TLS connection whose certificate passed' relay examples/scenarios/stripped.txt
+expect 'relay: sends the message to mail.example.com, in cleartext' relay examples/scenarios/cleartext.txt
+expect 'relay: keeps the message and tries again later' relay examples/scenarios/tlsa-failed.txt
+expect "cannot open the scenario $files/missing" relay "$files/missing"
+printf 'clock 1\nnext-hop example.com\nmx secure\nhost 10 mail.example.com\naddress sure\n' >"$files/address"
+expect "$files/address, line 5: not understood" relay "$files/address"
+printf 'clock 1\nnext-hop example.com\nmx secure\nhost 10 mail..example.com\naddress secure\n' >"$files/name"
+expect '  library 61: refused: bad host name' relay "$files/name"
+printf 'clock 1\nnext-hop example.com\nmx insecure\nhost 10 mail.example.com\naddress insecure\n' >"$files/silent"
+expect "relay: the scenario doesn't say it" relay "$files/silent"
 
 # RFC 8461, 3.1 and 3.2
 domain=examples/domain
@@ -38,15 +68,6 @@ expect 'policy: answer 51: refused: the policy is malformed' discover $domain/re
 printf 'version: STSv1\nmode: none\n' >"$files/short"
 expect 'policy: answer 52: refused: the policy lacks a required field' discover $domain/records.txt "$files/short"
 expect "discover: cannot read $files/missing (at most 100000 bytes)" discover $domain/records.txt "$files/missing"
-
-# document 01, "A host's facts, in the order learnt"
-expect 'answer 3: deliver authenticated by DANE' host dane
-expect 'answer 26: next host: DANE did not match' host wrong-key
-expect 'answer 24: next host: TLS needed, not offered' host stripped
-expect 'answer 22: next host: TLSA lookup failed' host lookup-failed
-expect 'answer 4: deliver authenticated by MTA-STS' host mta-sts
-expect 'answer 27: next host: MTA-STS certificate check did not pass' host wrong-name
-expect 'answer 1: deliver in cleartext' host plain
 
 [ "$failed" -eq 0 ] && echo "examples: as expected"
 exit "$failed"

@@ -10,6 +10,10 @@ use Rattle.messages.specs.declared.MxLookup.{MxLookup}
 use Rattle.messages.specs.Hosts.{noHost, nextHost}
 use Rattle.tweedstork.specs.Codes.{mxLookupOf}
 
+-- tweedstork_version: major * 10000 + minor * 100 + patch, as in the header
+abbrev pub version : ℕ
+version = 10000
+
 -- a slice of bytes, each below 256
 abbrev pub isBytes : List ℕ → Bool
 isBytes s = all (λ (b : ℕ). leb b 255) s

@@ -6,13 +6,21 @@ ghost use Rattle.hosts.specs.Arguments.{argumentsOf};
 ghost use Rattle.hosts.specs.Demands.{Judged};
 ghost use Rattle.policies.specs.Policy.{policyAnswer};
 ghost use Rattle.txt.specs.Txt.{readTxt, wroteTxt};
-ghost use Rattle.tweedstork.specs.Calls.{isBytes, nextHostAnswer};
+ghost use Rattle.tweedstork.specs.Calls.{isBytes, nextHostAnswer, version};
 use hosts::HostAnswer;
 use hosts::Numbers;
 use messages::MessageAnswer;
 use messages::MxLookup;
 use policies::PolicyAnswer;
 use txt::TxtAnswer;
+
+// The version of the archive; a C program holds it against the header's.
+#[no_mangle]
+pub extern "C" fn tweedstork_version() -> u64
+    ensures { λ r. ⌜ r ≡ version ⌝ }
+{
+    10000
+}
 
 // Which MTA-STS record do these TXT RDATAs hold, and what is its id?
 #[no_mangle]

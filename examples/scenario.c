@@ -1,0 +1,253 @@
+/* Reads a scenario's text: a keyword and its words on each line. */
+#include "scenario.h"
+
+#include <stdio.h>
+#include <stdlib.h>
+#include <string.h>
+
+#define MOST_WORDS 5 /* of a line */
+
+struct choice {
+    const char *word;
+    uint64_t code;
+};
+
+static const struct choice yes_no[] = {{"yes", TWEEDSTORK_YES}, {"no", TWEEDSTORK_NO}, {NULL, 0}};
+
+static const struct choice origins[] = {{"secure", TWEEDSTORK_SECURE_MX}, {"insecure", TWEEDSTORK_INSECURE_MX}, {"none", TWEEDSTORK_NO_MX}, {NULL, 0}};
+
+static const struct choice addresses[] = {
+    {"secure", TWEEDSTORK_NO_ALIAS_SECURE}, {"insecure", TWEEDSTORK_NO_ALIAS_INSECURE}, {"failed", TWEEDSTORK_ADDRESS_LOOKUP_FAILED},
+    {"none", TWEEDSTORK_ADDRESS_ABSENT}, {NULL, 0}};
+
+static const struct choice aliases[] = {
+    {"secure", TWEEDSTORK_ALIAS_SECURE}, {"first-step-secure", TWEEDSTORK_ALIAS_FIRST_STEP_SECURE},
+    {"first-step-insecure", TWEEDSTORK_ALIAS_FIRST_STEP_INSECURE}, {NULL, 0}};
+
+static const struct choice tlsa_results[] = {
+    {"secure", TWEEDSTORK_TLSA_SECURE}, {"insecure", TWEEDSTORK_TLSA_INSECURE}, {"absent", TWEEDSTORK_TLSA_ABSENT},
+    {"failed", TWEEDSTORK_TLSA_LOOKUP_FAILED}, {NULL, 0}};
+
+static const struct choice starttls_offers[] = {{"offered", TWEEDSTORK_STARTTLS_OFFERED}, {"not-offered", TWEEDSTORK_STARTTLS_NOT_OFFERED}, {NULL, 0}};
+
+static const struct choice handshakes[] = {{"established", TWEEDSTORK_ESTABLISHED}, {"failed", TWEEDSTORK_NOT_ESTABLISHED}, {NULL, 0}};
+
+static int choose(const char *word, const struct choice *choices, uint64_t *code)
+{
+    for (; choices->word != NULL; choices++)
+        if (strcmp(word, choices->word) == 0) {
+            *code = choices->code;
+            return 1;
+        }
+    return 0;
+}
+
+static int read_number(const char *word, uint64_t most, uint64_t *number)
+{
+    char *end;
+    unsigned long long value;
+
+    if (word[0] < '0' || word[0] > '9')
+        return 0;
+    value = strtoull(word, &end, 10);
+    *number = value;
+    return *end == '\0' && value <= most;
+}
+
+static int append(struct scenario_bytes *to, const void *bytes, size_t length)
+{
+    if (length > sizeof to->bytes - to->length)
+        return 0;
+    memcpy(to->bytes + to->length, bytes, length);
+    to->length += length;
+    return 1;
+}
+
+static int append_text(struct scenario_bytes *to, const char *text)
+{
+    return append(to, text, strlen(text));
+}
+
+static int append_number(struct scenario_bytes *list, uint32_t number)
+{
+    uint8_t bytes[4];
+
+    tweedstork_put_number(bytes, 0, number);
+    return append(list, bytes, sizeof bytes);
+}
+
+static int append_part(struct scenario_parts *to, const void *bytes, size_t length)
+{
+    return append(&to->joined, bytes, length) && append_number(&to->lengths, (uint32_t)length);
+}
+
+/* Bytes in hexadecimal; HEX*COUNT is the same bytes COUNT times. */
+static int read_hex(const char *word, struct scenario_bytes *bytes)
+{
+    uint64_t count = 1;
+    const char *star = strchr(word, '*');
+    size_t digits = star == NULL ? strlen(word) : (size_t)(star - word);
+
+    if (digits == 0 || digits % 2 != 0 || strspn(word, "0123456789abcdef") != digits || (star != NULL && !read_number(star + 1, sizeof bytes->bytes, &count)))
+        return 0;
+    for (; count > 0; count--)
+        for (size_t i = 0; i < digits; i += 2) {
+            char pair[3] = {word[i], word[i + 1], '\0'};
+            uint8_t byte = (uint8_t)strtoul(pair, NULL, 16);
+            if (!append(bytes, &byte, 1))
+                return 0;
+        }
+    return 1;
+}
+
+/* record USAGE SELECTOR MATCHING-TYPE HEX: one more record of the TLSA answer last named. */
+static int add_record(struct scenario_tlsa *answer, char **words)
+{
+    static struct scenario_bytes rdata;
+    uint64_t number;
+
+    if (answer == NULL)
+        return 0;
+    rdata.length = 0;
+    for (int i = 1; i <= 3; i++) {
+        uint8_t byte;
+        if (!read_number(words[i], 255, &number))
+            return 0;
+        byte = (uint8_t)number;
+        append(&rdata, &byte, 1);
+    }
+    return read_hex(words[4], &rdata) && append_part(&answer->records, rdata.bytes, rdata.length);
+}
+
+/*
+ * certificate PATH HEX: one more certificate; does the path from the leaf to it verify, and the SHA-256 of its public key info.
+ * A relay has the certificate, its key info and all four digests from its TLS library; here a text stands for the
+ * certificate, and the three digests that no record of ours asks for are zero.
+ */
+static int add_certificate(struct scenario_host *host, const char *path, const char *key_sha256)
+{
+    static const char text[] = "a certificate with its key";
+    static const uint8_t no_digests[96];
+    uint64_t verifies;
+    size_t before = host->digests.length;
+
+    return choose(path, yes_no, &verifies) && append_number(&host->paths, (uint32_t)verifies) &&
+           append_part(&host->certificates, text, sizeof text - 1) &&
+           append_number(&host->key_places, (uint32_t)(strstr(text, "key") - text)) && append_number(&host->key_places, 3) &&
+           append(&host->digests, no_digests, sizeof no_digests) && read_hex(key_sha256, &host->digests) &&
+           host->digests.length == before + 96 + 32 && append(&host->digests, no_digests, 64);
+}
+
+static int begin_host(struct scenario *s, const char *preference, const char *name)
+{
+    uint64_t number;
+    struct scenario_host *host = &s->hosts[s->host_count];
+
+    if (s->host_count == SCENARIO_HOSTS || !read_number(preference, 65535, &number))
+        return 0;
+    s->host_count++;
+    host->preference = (uint32_t)number;
+    host->trusted_root = TWEEDSTORK_NO;
+    host->common_name_given = TWEEDSTORK_NO;
+    return append_text(&host->name, name);
+}
+
+/* A line on the message. */
+static int read_message_line(struct scenario *s, char **words, size_t count)
+{
+    if (count == 3 && strcmp(words[0], "host") == 0)
+        return begin_host(s, words[1], words[2]);
+    if (count != 2)
+        return 0;
+    if (strcmp(words[0], "clock") == 0)
+        return read_number(words[1], UINT64_MAX, &s->clock);
+    if (strcmp(words[0], "next-hop") == 0)
+        return append_text(&s->next_hop, words[1]);
+    if (strcmp(words[0], "policy-fetched") == 0) {
+        s->policy_given = TWEEDSTORK_POLICY;
+        return read_number(words[1], UINT64_MAX, &s->fetched);
+    }
+    if (strcmp(words[0], "mx") == 0) {
+        s->mx_lookup = strcmp(words[1], "failed") == 0 ? TWEEDSTORK_MX_FAILED : TWEEDSTORK_MX_ANSWERED;
+        return s->mx_lookup == TWEEDSTORK_MX_FAILED || choose(words[1], origins, &s->origin);
+    }
+    return 0;
+}
+
+/* A line on the host last named; `tlsa` is its TLSA answer last named. */
+static int read_host_line(struct scenario_host *host, struct scenario_tlsa **tlsa, char **words, size_t count)
+{
+    const char *keyword = words[0];
+
+    if (count == 3 && strcmp(keyword, "alias") == 0)
+        return choose(words[1], aliases, &host->address) && append_text(&host->expanded, words[2]);
+    if (count == 3 && strcmp(keyword, "certificate") == 0)
+        return add_certificate(host, words[1], words[2]);
+    if (count == 5 && strcmp(keyword, "record") == 0)
+        return add_record(*tlsa, words);
+    if (count != 2)
+        return 0;
+    if (strcmp(keyword, "tlsa") == 0 || strcmp(keyword, "tlsa-expanded") == 0) {
+        *tlsa = keyword[4] == '\0' ? &host->at_host : &host->at_expanded;
+        return choose(words[1], tlsa_results, &(*tlsa)->result);
+    }
+    if (strcmp(keyword, "address") == 0)
+        return choose(words[1], addresses, &host->address);
+    if (strcmp(keyword, "starttls") == 0)
+        return choose(words[1], starttls_offers, &host->starttls);
+    if (strcmp(keyword, "handshake") == 0)
+        return choose(words[1], handshakes, &host->handshake);
+    if (strcmp(keyword, "trusted-root") == 0)
+        return choose(words[1], yes_no, &host->trusted_root);
+    if (strcmp(keyword, "dns-id") == 0)
+        return append_part(&host->dns_ids, words[1], strlen(words[1]));
+    if (strcmp(keyword, "common-name") == 0) {
+        host->common_name_given = TWEEDSTORK_YES;
+        return append_text(&host->common_name, words[1]);
+    }
+    return 0;
+}
+
+static int read_line(struct scenario *s, struct scenario_tlsa **tlsa, char *text)
+{
+    char *words[MOST_WORDS + 1];
+    size_t count = 0, hosts = s->host_count;
+    char *at = text + strspn(text, " \t");
+
+    if (at[0] == '|') /* a line of the policy, after "| " */
+        return append_text(&s->policy, at[1] == ' ' ? at + 2 : at + 1);
+    for (char *word = strtok(at, " \t\n"); word != NULL && word[0] != '#' && count <= MOST_WORDS; word = strtok(NULL, " \t\n"))
+        words[count++] = word;
+    if (count == 0)
+        return 1;
+    if (read_message_line(s, words, count)) {
+        if (s->host_count > hosts)
+            *tlsa = NULL;
+        return 1;
+    }
+    return hosts > 0 && read_host_line(&s->hosts[hosts - 1], tlsa, words, count);
+}
+
+int scenario_read(const char *path, struct scenario *scenario)
+{
+    char text[1024];
+    struct scenario_tlsa *tlsa = NULL;
+    unsigned number = 0;
+    int good = 1;
+    FILE *file = fopen(path, "r");
+
+    if (file == NULL) {
+        fprintf(stderr, "cannot open the scenario %s\n", path);
+        return 0;
+    }
+    memset(scenario, 0, sizeof *scenario);
+    scenario->policy_given = TWEEDSTORK_NO_POLICY;
+    while (good && fgets(text, sizeof text, file) != NULL) {
+        number++;
+        good = read_line(scenario, &tlsa, text);
+    }
+    if (!good)
+        fprintf(stderr, "%s, line %u: not understood\n", path, number);
+    fclose(file);
+    return good;
+}

@@ -1,0 +1,141 @@
+/*
+ * The header's own C: the words, the lists of numbers, and tweedstork_judge_facts, which must hand each field to the argument
+ * of its name. To see that, this program is linked without the archive and has a tweedstork_judge_host of its own, which
+ * notes its arguments.
+ */
+#include <stdio.h>
+#include <string.h>
+
+#include "tweedstork.h"
+
+static unsigned passed, failed;
+
+static void expect(const char *name, int holds)
+{
+    if (holds) {
+        passed++;
+    } else {
+        failed++;
+        printf("%s: failed\n", name);
+    }
+}
+
+static struct tweedstork_host_facts noted;
+
+static struct tweedstork_slice slice(const uint8_t *bytes, size_t length)
+{
+    struct tweedstork_slice slice = {bytes, length};
+    return slice;
+}
+
+struct tweedstork_host_answer tweedstork_judge_host(
+    uint64_t clock, const uint8_t *next_hop, size_t next_hop_length, uint64_t origin, const uint8_t *host, size_t host_length,
+    uint64_t address, const uint8_t *expanded, size_t expanded_length, uint64_t policy_given, const uint8_t *policy,
+    size_t policy_length, uint64_t fetched, uint64_t tlsa_answers, uint64_t tlsa1_result, const uint8_t *tlsa1_lengths,
+    size_t tlsa1_lengths_length, const uint8_t *tlsa1_records, size_t tlsa1_records_length, uint64_t tlsa2_result,
+    const uint8_t *tlsa2_lengths, size_t tlsa2_lengths_length, const uint8_t *tlsa2_records, size_t tlsa2_records_length,
+    uint64_t starttls, uint64_t handshake, uint64_t certificates_given, const uint8_t *certificates, size_t certificates_length,
+    const uint8_t *certificate_lengths, size_t certificate_lengths_length, const uint8_t *key_places, size_t key_places_length,
+    const uint8_t *digests, size_t digests_length, const uint8_t *paths, size_t paths_length, uint64_t trusted_root,
+    const uint8_t *dns_ids, size_t dns_ids_length, const uint8_t *dns_id_lengths, size_t dns_id_lengths_length,
+    uint64_t common_name_given, const uint8_t *common_name, size_t common_name_length)
+{
+    struct tweedstork_host_answer answer = {12345, 67890};
+
+    noted.clock = clock;
+    noted.next_hop = slice(next_hop, next_hop_length);
+    noted.origin = origin;
+    noted.host = slice(host, host_length);
+    noted.address = address;
+    noted.expanded = slice(expanded, expanded_length);
+    noted.policy_given = policy_given;
+    noted.policy = slice(policy, policy_length);
+    noted.fetched = fetched;
+    noted.tlsa_answers = tlsa_answers;
+    noted.tlsa[0].result = tlsa1_result;
+    noted.tlsa[0].lengths = slice(tlsa1_lengths, tlsa1_lengths_length);
+    noted.tlsa[0].records = slice(tlsa1_records, tlsa1_records_length);
+    noted.tlsa[1].result = tlsa2_result;
+    noted.tlsa[1].lengths = slice(tlsa2_lengths, tlsa2_lengths_length);
+    noted.tlsa[1].records = slice(tlsa2_records, tlsa2_records_length);
+    noted.starttls = starttls;
+    noted.handshake = handshake;
+    noted.certificates_given = certificates_given;
+    noted.certificates = slice(certificates, certificates_length);
+    noted.certificate_lengths = slice(certificate_lengths, certificate_lengths_length);
+    noted.key_places = slice(key_places, key_places_length);
+    noted.digests = slice(digests, digests_length);
+    noted.paths = slice(paths, paths_length);
+    noted.trusted_root = trusted_root;
+    noted.dns_ids = slice(dns_ids, dns_ids_length);
+    noted.dns_id_lengths = slice(dns_id_lengths, dns_id_lengths_length);
+    noted.common_name_given = common_name_given;
+    noted.common_name = slice(common_name, common_name_length);
+    return answer;
+}
+
+/* Every field is a number of eight bytes or a pointer: each gets a value of its own. */
+static void each_field_arrives(void)
+{
+    struct tweedstork_host_facts facts;
+    uint64_t words[sizeof facts / 8];
+    struct tweedstork_host_answer answer;
+
+    expect("no field is padded or of another size", sizeof facts == 8 * (13 + 2 * 16));
+    for (size_t i = 0; i < sizeof words / 8; i++)
+        words[i] = 1000 + i;
+    memcpy(&facts, words, sizeof facts);
+    memset(&noted, 0, sizeof noted);
+    answer = tweedstork_judge_facts(&facts);
+    expect("each field arrives at its argument", memcmp(&noted, &facts, sizeof facts) == 0);
+    expect("the answer comes back", answer.number == 12345 && answer.tlsa_questions == 67890);
+    memset(&facts, 0, sizeof facts);
+    tweedstork_judge_facts(&facts);
+    expect("nothing given is all zero", memcmp(&noted, &facts, sizeof facts) == 0);
+}
+
+static void numbers_are_written_high_first(void)
+{
+    static const uint8_t wanted[13] = {0xee, 0xee, 0xee, 0xee, 0x01, 0x02, 0x03, 0x04, 0, 0, 1, 0, 0xee};
+    uint8_t list[13];
+
+    memset(list, 0xee, sizeof list);
+    tweedstork_put_number(list, 1, 0x01020304);
+    tweedstork_put_number(list, 2, 256);
+    expect("numbers are written high first, at their place", memcmp(list, wanted, sizeof list) == 0);
+}
+
+/* The answer table of document 01: 1 to 14, 20 to 27, 30 and 31, 40 to 44, 50 to 52, 60 to 67. */
+static void each_number_has_words(void)
+{
+    static const uint64_t ranges[][2] = {{1, 14}, {20, 27}, {30, 31}, {40, 44}, {50, 52}, {60, 67}};
+    const char *none = tweedstork_answer_words(0);
+    unsigned with_words = 0;
+
+    for (uint64_t number = 0; number < 1000; number++) {
+        const char *words = tweedstork_answer_words(number);
+        int in_table = 0;
+        for (size_t i = 0; i < sizeof ranges / sizeof ranges[0]; i++)
+            in_table |= ranges[i][0] <= number && number <= ranges[i][1];
+        if (words == NULL || (strcmp(words, none) != 0) != in_table) {
+            printf("words of %u\n", (unsigned)number);
+            expect("exactly the numbers of the table have words", 0);
+            return;
+        }
+        with_words += (unsigned)in_table;
+        for (uint64_t other = 1; in_table && other < number; other++)
+            if (strcmp(words, tweedstork_answer_words(other)) == 0)
+                expect("no two numbers have the same words", 0);
+    }
+    expect("40 numbers have words", with_words == 40);
+    expect("the largest number has none", strcmp(tweedstork_answer_words(UINT64_MAX), none) == 0);
+}
+
+int main(void)
+{
+    each_field_arrives();
+    numbers_are_written_high_first();
+    each_number_has_words();
+    printf("conveniences: %u passed, %u failed\n", passed, failed);
+    return failed == 0 ? 0 : 1;
+}
