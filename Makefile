@@ -1,5 +1,6 @@
 # make run    builds the library and shows it at work
 # make test   runs every test; its last line is rt's 'N passed, M failed'
+# make bench  measures against plain C and Rust; fails where a promise on speed is broken
 # make install PREFIX=/usr/local
 #             header, archive, pkg-config file and man page
 # make clean  removes what the others made
@@ -16,7 +17,7 @@ PREFIX ?= /usr/local
 ARCHIVE = target/staticlib/libtweedstork.a
 OUT = target/c
 
-.PHONY: all run test install clean toolchain archive examples
+.PHONY: all run test bench install clean toolchain archive examples
 all: archive
 
 toolchain:
@@ -50,6 +51,9 @@ test: examples
 	tests/independent/run target/staticlib $(OUT)/independent
 	$(RT) fmt --check
 	$(RT) ci
+
+bench: archive
+	CC='$(CC)' bench/run target/staticlib $(OUT)/bench
 
 install: archive
 	@packaging/install $(ARCHIVE) $(PREFIX)

@@ -1,0 +1,462 @@
+#include "inputs.h"
+
+#include <stdio.h>
+#include <stdlib.h>
+#include <string.h>
+
+#include "tweedstork.h"
+
+/* ---- bytes ---- */
+
+/* Memory that lives as long as the program. */
+static void *take(size_t size)
+{
+    void *memory = calloc(1, size == 0 ? 1 : size);
+
+    if (memory == NULL) {
+        fprintf(stderr, "bench: out of memory\n");
+        exit(1);
+    }
+    return memory;
+}
+
+static struct bytes room(size_t length)
+{
+    return (struct bytes){take(length), length};
+}
+
+static struct bytes text(const char *characters)
+{
+    struct bytes b = room(strlen(characters));
+
+    memcpy(b.at, characters, b.length);
+    return b;
+}
+
+static void put_number(struct bytes list, size_t i, size_t number)
+{
+    for (size_t k = 0; k < 4; k++)
+        list.at[4 * i + k] = (uint8_t)(number >> (24 - 8 * k));
+}
+
+/* A list of count times the same number. */
+static struct bytes list_of(size_t count, size_t number)
+{
+    struct bytes list = room(4 * count);
+
+    for (size_t i = 0; i < count; i++)
+        put_number(list, i, number);
+    return list;
+}
+
+/* Bytes without a pattern, as digests and keys are. */
+static void scramble(struct bytes b, uint32_t seed)
+{
+    uint32_t x = seed * 2654435761u + 1;
+
+    for (size_t i = 0; i < b.length; i++) {
+        x ^= x << 13;
+        x ^= x >> 17;
+        x ^= x << 5;
+        b.at[i] = (uint8_t)(x >> 11);
+    }
+}
+
+static struct bytes part(struct bytes b, size_t start, size_t length)
+{
+    return (struct bytes){b.at + start, length};
+}
+
+/* ---- the list of inputs ---- */
+
+static struct input *add(struct inputs *inputs, enum table table, enum call call, const char *name)
+{
+    struct input *input = &inputs->at[inputs->count++];
+
+    if (inputs->count > MAX_INPUTS) {
+        fprintf(stderr, "bench: more than MAX_INPUTS inputs: raise it in inputs.h\n");
+        exit(1);
+    }
+    input->table = table;
+    input->call = call;
+    input->steps = 1;
+    snprintf(input->name, sizeof input->name, "%s", name);
+    return input;
+}
+
+static struct input *add_counted(struct inputs *inputs, enum table table, enum call call, size_t count)
+{
+    char name[32];
+
+    snprintf(name, sizeof name, "%zu", count);
+    return add(inputs, table, call, name);
+}
+
+static void expect(struct input *input, size_t step, uint64_t number, uint64_t second, uint64_t third, uint64_t fourth)
+{
+    input->expected[step] = (struct answer){{number, second, third, fourth}};
+}
+
+/* ---- policies ---- */
+
+static const char policy_head[] = "version: STSv1\nmode: enforce\nmax_age: 604800\n";
+static const char small_policy[] = "version: STSv1\nmode: enforce\nmx: *.example.com\nmax_age: 604800\n";
+enum { MAX_AGE = 604800, POLICY_HEAD = sizeof policy_head - 1, MX_LINE = 24 };
+
+/* An mx line of a given length, its end included: mx: m000007.example.com */
+static void put_mx_line(struct bytes line, size_t number)
+{
+    static const char start[] = "mx: m", end[] = ".example.com\n";
+    char digits[64];
+    size_t count = line.length - (sizeof start - 1) - (sizeof end - 1);
+
+    snprintf(digits, sizeof digits, "%0*zu", (int)count, number);
+    memcpy(line.at, start, sizeof start - 1);
+    memcpy(line.at + sizeof start - 1, digits, count);
+    memcpy(line.at + line.length - (sizeof end - 1), end, sizeof end - 1);
+}
+
+static void make_mx_policy(struct input *input, size_t size)
+{
+    size_t done = POLICY_HEAD, lines = 0;
+
+    input->first = room(size);
+    memcpy(input->first.at, policy_head, POLICY_HEAD);
+    while (done < size) {
+        size_t left = size - done, length = left < 2 * MX_LINE ? left : MX_LINE;
+        put_mx_line(part(input->first, done, length), lines++);
+        done += length;
+    }
+    expect(input, 0, TWEEDSTORK_POLICY_ACCEPTED, TWEEDSTORK_ENFORCE, MAX_AGE, lines);
+}
+
+static void make_long_value_policy(struct input *input, size_t size)
+{
+    size_t start = sizeof small_policy - 1;
+
+    input->first = room(size);
+    memcpy(input->first.at, small_policy, start);
+    memset(input->first.at + start, 'x', size - start);
+    memcpy(input->first.at + start, "note: ", 6);
+    input->first.at[size - 1] = '\n';
+    expect(input, 0, TWEEDSTORK_POLICY_ACCEPTED, TWEEDSTORK_ENFORCE, MAX_AGE, 1);
+}
+
+static void add_policies(struct inputs *inputs)
+{
+    struct input *input = add(inputs, PROMISED, READ_POLICY, "policy of 4 lines, 63 bytes");
+
+    input->first = text(small_policy);
+    expect(input, 0, TWEEDSTORK_POLICY_ACCEPTED, TWEEDSTORK_ENFORCE, MAX_AGE, 1);
+    make_mx_policy(add(inputs, PROMISED, READ_POLICY, "policy of 64 KiB, mx lines"), 65536);
+    make_long_value_policy(add(inputs, PROMISED, READ_POLICY, "policy of 64 KiB, one long value"), 65536);
+    for (size_t size = 64; size <= 65536; size *= 4)
+        make_mx_policy(add_counted(inputs, POLICY_BYTES, READ_POLICY, size), size);
+}
+
+/* ---- TXT records ---- */
+
+static const char rfc_record[] = "v=STSv1; id=20160831085700Z;";
+enum { ID_START = 12, ID_LENGTH = 15, TXT_FIELD = 32 };
+
+/* A TXT RDATA: the text in character strings of up to 255 bytes. */
+static struct bytes rdata_of(struct bytes joined)
+{
+    struct bytes rdata = room(joined.length + (joined.length + 254) / 255);
+    size_t out = 0;
+
+    for (size_t i = 0; i < joined.length; i += 255) {
+        size_t length = joined.length - i < 255 ? joined.length - i : 255;
+        rdata.at[out] = (uint8_t)length;
+        memcpy(rdata.at + out + 1, joined.at + i, length);
+        out += 1 + length;
+    }
+    return rdata;
+}
+
+/* The records one after another; the last is the one that is accepted. */
+static void make_txt(struct input *input, const struct bytes *records, size_t count)
+{
+    size_t done = 0;
+
+    input->second = room(4 * count);
+    for (size_t i = 0; i < count; i++) {
+        struct bytes rdata = rdata_of(records[i]), both = room(done + rdata.length);
+        if (done != 0)
+            memcpy(both.at, input->first.at, done);
+        memcpy(both.at + done, rdata.at, rdata.length);
+        done = both.length;
+        input->first = both;
+        put_number(input->second, i, rdata.length);
+    }
+    input->text = records[count - 1];
+    input->output = room(input->text.length);
+    expect(input, 0, TWEEDSTORK_TXT_ACCEPTED, ID_START, ID_LENGTH, 0);
+}
+
+/* The RFC's record with further fields, each of TXT_FIELD bytes with its delimiter and the last up to twice that. */
+static struct bytes long_record(size_t size)
+{
+    struct bytes b = room(size);
+    size_t done = sizeof rfc_record - 2, fields = 0;
+    char start[32];
+
+    memset(b.at, 'x', size);
+    memcpy(b.at, rfc_record, done);
+    while (done < size) {
+        size_t left = size - done;
+        snprintf(start, sizeof start, "; f%06zu=", fields++);
+        memcpy(b.at + done, start, strlen(start));
+        done += left < 2 * TXT_FIELD ? left : TXT_FIELD;
+    }
+    return b;
+}
+
+static void add_txt(struct inputs *inputs)
+{
+    static const char *const others[] = {"v=spf1 include:_spf.example.com ~all", "site-verification=1b9Zq0Yx7cV2mT4k8sQ3wE6rU5iO", "MS=ms12345678",
+        "v=DMARC1; p=reject; rua=mailto:reports@example.com", "owner: the mail team of example.com"};
+    enum { RECORDS = 21, OTHERS = sizeof others / sizeof others[0] };
+    struct bytes records[RECORDS], one = text(rfc_record), kib4 = long_record(4096);
+
+    for (size_t i = 0; i + 1 < RECORDS; i++)
+        records[i] = text(others[i % OTHERS]);
+    records[RECORDS - 1] = one;
+    make_txt(add(inputs, PROMISED, READ_TXT, "TXT record of RFC 8461, 28 bytes"), &one, 1);
+    make_txt(add(inputs, PROMISED, READ_TXT, "TXT record of 4 KiB, 128 fields"), &kib4, 1);
+    make_txt(add(inputs, PROMISED, READ_TXT, "21 TXT records, the last is MTA-STS's"), records, RECORDS);
+    /* An RDATA has at most 65,535 bytes, so the series ends just below 64 KiB. */
+    for (size_t size = 64; size <= 65536; size *= 4) {
+        struct bytes record = long_record(size < 65000 ? size : 65000);
+        make_txt(add_counted(inputs, TXT_BYTES, READ_TXT, record.length), &record, 1);
+    }
+}
+
+/* ---- hosts ---- */
+
+enum { CERTIFICATE = 1500, KEY_START = 300, KEY_INFO = 294, DIGESTS = 192, KEY_SHA256 = 96, SHA256 = 32, RECORD = 3 + SHA256 };
+
+/* Facts up to an established handshake, with certificates and two DNS-IDs; neither TLSA answers nor a policy. */
+static struct facts facts_with(size_t certificates)
+{
+    struct facts f;
+
+    memset(&f, 0, sizeof f);
+    f.clock = 1700000000;
+    f.next_hop = text("example.com");
+    f.origin = TWEEDSTORK_SECURE_MX;
+    f.host = text("mail.example.com");
+    f.address = TWEEDSTORK_NO_ALIAS_INSECURE;
+    f.policy_given = TWEEDSTORK_NO_POLICY;
+    f.starttls = TWEEDSTORK_STARTTLS_OFFERED;
+    f.handshake = TWEEDSTORK_ESTABLISHED;
+    f.certificates_given = TWEEDSTORK_CERTIFICATES_GIVEN;
+    f.certificates = room(certificates * CERTIFICATE);
+    scramble(f.certificates, 1);
+    f.certificate_lengths = list_of(certificates, CERTIFICATE);
+    f.key_places = list_of(2 * certificates, KEY_START);
+    for (size_t i = 0; i < certificates; i++)
+        put_number(f.key_places, 2 * i + 1, KEY_INFO);
+    f.digests = room(certificates * DIGESTS);
+    scramble(f.digests, 2);
+    f.paths = list_of(certificates, TWEEDSTORK_YES);
+    f.trusted_root = TWEEDSTORK_YES;
+    f.dns_ids = text("mail.example.commail.example.net");
+    f.dns_id_lengths = list_of(2, 16);
+    f.common_name_given = TWEEDSTORK_NO;
+    return f;
+}
+
+/* A secure answer with records usage 1 1 that match nothing. */
+static void give_records(struct facts *f, size_t count, uint8_t usage)
+{
+    f->address = TWEEDSTORK_NO_ALIAS_SECURE;
+    f->tlsa_answers = 1;
+    f->tlsa[0].result = TWEEDSTORK_TLSA_SECURE;
+    f->tlsa[0].lengths = list_of(count, RECORD);
+    f->tlsa[0].records = room(count * RECORD);
+    scramble(f->tlsa[0].records, 3);
+    for (size_t i = 0; i < count; i++)
+        memcpy(f->tlsa[0].records.at + i * RECORD, (const uint8_t[]){usage, 1, 1}, 3);
+}
+
+/* Lets a record match the key of a certificate. */
+static void match(struct facts *f, size_t record, size_t certificate)
+{
+    memcpy(f->tlsa[0].records.at + record * RECORD + 3, f->digests.at + certificate * DIGESTS + KEY_SHA256, SHA256);
+}
+
+static void give_policy(struct facts *f)
+{
+    f->policy_given = TWEEDSTORK_POLICY;
+    f->policy = text(small_policy);
+    f->fetched = f->clock - 1000;
+}
+
+/* One record 3 0 0 that is the leaf itself. */
+static void give_whole_leaf(struct facts *f)
+{
+    give_records(f, 1, 3);
+    f->tlsa[0].lengths = list_of(1, 3 + CERTIFICATE);
+    f->tlsa[0].records = room(3 + CERTIFICATE);
+    f->tlsa[0].records.at[0] = 3;
+    memcpy(f->tlsa[0].records.at + 3, f->certificates.at, CERTIFICATE);
+}
+
+static struct facts *add_host(struct inputs *inputs, enum table table, const char *name, size_t certificates, uint64_t number, uint64_t questions)
+{
+    struct input *input = add(inputs, table, JUDGE_HOST, name);
+
+    input->facts[0] = facts_with(certificates);
+    expect(input, 0, number, questions, 0, 0);
+    return &input->facts[0];
+}
+
+static void add_promised_hosts(struct inputs *inputs)
+{
+    struct facts *f = add_host(inputs, PROMISED, "host, 1 TLSA record 3 1 1, 8 certificates", 8, TWEEDSTORK_DANE, 1);
+
+    give_records(f, 1, 3);
+    match(f, 0, 0);
+    f = add_host(inputs, PROMISED, "host, 32 TLSA records 3 1 1, 8 certificates", 8, TWEEDSTORK_DANE, 1);
+    give_records(f, 32, 3);
+    match(f, 31, 0);
+    f = add_host(inputs, PROMISED, "host, 1 TLSA record 2 1 1, 8 certificates", 8, TWEEDSTORK_DANE, 1);
+    give_records(f, 1, 2);
+    match(f, 0, 7);
+    f = add_host(inputs, PROMISED, "host, 32 TLSA records 2 1 1, 8 certificates", 8, TWEEDSTORK_DANE, 1);
+    give_records(f, 32, 2);
+    match(f, 31, 7);
+    f = add_host(inputs, PROMISED, "host, 32 TLSA records 2 1 1, 8 certificates, a policy", 8, TWEEDSTORK_DANE_AND_MTA_STS, 1);
+    give_records(f, 32, 2);
+    match(f, 31, 7);
+    give_policy(f);
+}
+
+/* ---- whole decisions ---- */
+
+/* Makes the calls of a relay out of the last one: each has one fact less than the next, back to none learnt. */
+static void make_decision(struct input *input, struct facts f, uint64_t verdict)
+{
+    uint64_t questions = f.tlsa_answers;
+    size_t step = input->steps = 4 + questions;
+
+    input->facts[--step] = f;
+    expect(input, step, verdict, questions, 0, 0);
+    f.certificates_given = TWEEDSTORK_CERTIFICATES_NOT_GIVEN;
+    input->facts[--step] = f;
+    expect(input, step, TWEEDSTORK_ASK_CERTIFICATES, questions, 0, 0);
+    f.handshake = TWEEDSTORK_HANDSHAKE_NOT_GIVEN;
+    input->facts[--step] = f;
+    expect(input, step, TWEEDSTORK_ASK_HANDSHAKE, questions, 0, 0);
+    f.starttls = TWEEDSTORK_STARTTLS_NOT_GIVEN;
+    input->facts[--step] = f;
+    expect(input, step, TWEEDSTORK_ASK_STARTTLS, questions, 0, 0);
+    if (questions == 0)
+        return;
+    f.tlsa_answers = 0;
+    input->facts[--step] = f;
+    expect(input, step, TWEEDSTORK_ASK_TLSA_HOST, 0, 0, 0);
+}
+
+static void add_decisions(struct inputs *inputs)
+{
+    struct facts f = facts_with(3);
+
+    give_records(&f, 2, 3);
+    match(&f, 1, 0);
+    make_decision(add(inputs, DECISIONS, JUDGE_HOST, "DANE: 5 calls, 2 records 3 1 1, 3 certificates"), f, TWEEDSTORK_DANE);
+    f = facts_with(3);
+    give_policy(&f);
+    make_decision(add(inputs, DECISIONS, JUDGE_HOST, "MTA-STS: 4 calls, policy of 63 bytes, 3 certificates"), f, TWEEDSTORK_MTA_STS);
+    f = facts_with(3);
+    give_whole_leaf(&f);
+    make_decision(add(inputs, DECISIONS, JUDGE_HOST, "DANE: 5 calls, 1 record 3 0 0 (1.5 KB), 3 certificates"), f, TWEEDSTORK_DANE);
+}
+
+/* ---- growth ---- */
+
+static void add_record_series(struct inputs *inputs)
+{
+    for (size_t count = 1; count <= 32; count *= 2) {
+        struct input *input = add_counted(inputs, LAST_RECORD_MATCHES, JUDGE_HOST, count);
+        input->facts[0] = facts_with(8);
+        give_records(&input->facts[0], count, 2);
+        match(&input->facts[0], count - 1, 7);
+        expect(input, 0, TWEEDSTORK_DANE, 1, 0, 0);
+    }
+    for (size_t count = 1; count <= 32; count *= 2) {
+        struct input *input = add_counted(inputs, NO_RECORD_MATCHES, JUDGE_HOST, count);
+        input->facts[0] = facts_with(8);
+        give_records(&input->facts[0], count, 2);
+        expect(input, 0, TWEEDSTORK_DANE_MISMATCH, 1, 0, 0);
+    }
+}
+
+/* A record 2 1 1 that matches none, so that every certificate after the leaf has to be compared, in whatever order records are tried. */
+static void add_certificate_series(struct inputs *inputs)
+{
+    for (size_t count = 1; count <= 8; count *= 2) {
+        struct input *input = add_counted(inputs, CERTIFICATES, JUDGE_HOST, count);
+        input->facts[0] = facts_with(count);
+        give_records(&input->facts[0], 1, 2);
+        expect(input, 0, TWEEDSTORK_DANE_MISMATCH, 1, 0, 0);
+    }
+}
+
+/* Names of the host's length; the last is the host. */
+static void add_dns_id_series(struct inputs *inputs)
+{
+    for (size_t count = 1; count <= 64; count *= 2) {
+        struct input *input = add_counted(inputs, DNS_IDS, JUDGE_HOST, count);
+        struct facts *f = &input->facts[0];
+        char name[32];
+        *f = facts_with(3);
+        give_policy(f);
+        f->dns_ids = room(count * f->host.length);
+        f->dns_id_lengths = list_of(count, f->host.length);
+        for (size_t i = 0; i < count; i++) {
+            snprintf(name, sizeof name, i + 1 == count ? "mail.example.com" : "mx%02zu.example.com", i);
+            memcpy(f->dns_ids.at + i * f->host.length, name, f->host.length);
+        }
+        expect(input, 0, TWEEDSTORK_MTA_STS, 0, 0, 0);
+    }
+}
+
+/* The hosts stand in the reverse of their order; all are "next hosts" but the one that comes last. */
+static void add_host_series(struct inputs *inputs)
+{
+    for (size_t count = 1; count <= 32; count *= 2) {
+        struct input *input = add_counted(inputs, HOSTS, NEXT_HOST, count);
+        input->first = list_of(count, 0);
+        input->second = list_of(count, TWEEDSTORK_TLSA_FAILED);
+        for (size_t i = 0; i < count; i++)
+            put_number(input->first, i, 10 * (count - i));
+        put_number(input->second, 0, TWEEDSTORK_NOT_TRIED);
+        expect(input, 0, TWEEDSTORK_TRY_HOST, 0, 0, 0);
+    }
+}
+
+struct inputs *build_inputs(void)
+{
+    struct inputs *inputs = take(sizeof *inputs);
+
+    add_policies(inputs);
+    add_txt(inputs);
+    add_promised_hosts(inputs);
+    add_decisions(inputs);
+    add_record_series(inputs);
+    add_certificate_series(inputs);
+    add_dns_id_series(inputs);
+    add_host_series(inputs);
+    return inputs;
+}
+
+const struct input *first_input(const struct inputs *inputs, enum table table)
+{
+    size_t i = 0;
+
+    while (inputs->at[i].table != table)
+        i++;
+    return &inputs->at[i];
+}

@@ -1,0 +1,73 @@
+/* The inputs of the benchmark. The program builds them; no bytes come from a file. */
+#ifndef INPUTS_H
+#define INPUTS_H
+
+#include <stddef.h>
+#include <stdint.h>
+
+struct bytes {
+    uint8_t *at;
+    size_t length;
+};
+
+struct tlsa {
+    uint64_t result;
+    struct bytes lengths, records;
+};
+
+/* The arguments of tweedstork_judge_host. */
+struct facts {
+    uint64_t clock;
+    struct bytes next_hop;
+    uint64_t origin;
+    struct bytes host;
+    uint64_t address;
+    struct bytes expanded;
+    uint64_t policy_given;
+    struct bytes policy;
+    uint64_t fetched, tlsa_answers;
+    struct tlsa tlsa[2];
+    uint64_t starttls, handshake, certificates_given;
+    struct bytes certificates, certificate_lengths, key_places, digests, paths;
+    uint64_t trusted_root;
+    struct bytes dns_ids, dns_id_lengths;
+    uint64_t common_name_given;
+    struct bytes common_name;
+};
+
+/* An answer of any call: its number, then its other fields, then zeros. */
+struct answer {
+    uint64_t fields[4];
+};
+
+enum call { READ_TXT, READ_POLICY, JUDGE_HOST, NEXT_HOST };
+
+/* The tables that the results are shown in. The promise on speed is given for the inputs of the first. */
+enum table { PROMISED, DECISIONS, LAST_RECORD_MATCHES, NO_RECORD_MATCHES, CERTIFICATES, POLICY_BYTES, TXT_BYTES, DNS_IDS, HOSTS, TABLES };
+
+enum { MAX_STEPS = 5, MAX_INPUTS = 80 };
+
+/* One call, or the calls of a decision on a host, with what must be answered. */
+struct input {
+    enum table table;
+    char name[80];
+    enum call call;
+    struct bytes first, second; /* rdatas and lengths; body; preferences and verdicts */
+    struct bytes output, text;  /* of read_txt: lent memory, and what must stand in it afterwards */
+    size_t steps;
+    struct facts facts[MAX_STEPS];
+    struct answer expected[MAX_STEPS];
+};
+
+struct inputs {
+    size_t count;
+    struct input at[MAX_INPUTS];
+};
+
+/* New inputs, in memory that no other inputs share. */
+struct inputs *build_inputs(void);
+
+/* The first input of a table. */
+const struct input *first_input(const struct inputs *inputs, enum table table);
+
+#endif

@@ -1,0 +1,15 @@
+/*
+ * The yardstick of the benchmark as C meets it: the library's calls once more, with the prefix plain_ and the same
+ * arguments and answers.
+ */
+#ifndef PLAIN_H
+#define PLAIN_H
+
+#include "tweedstork.h"
+
+__typeof__(tweedstork_read_txt) plain_read_txt;
+__typeof__(tweedstork_read_policy) plain_read_policy;
+__typeof__(tweedstork_judge_host) plain_judge_host;
+__typeof__(tweedstork_next_host) plain_next_host;
+
+#endif
