@@ -8,6 +8,7 @@ pub mod Matter
 pub mod Written
 pub mod Accepted
 pub mod FullSets
+pub mod InOrder
 pub mod Third
 pub mod Second
 pub mod Judged

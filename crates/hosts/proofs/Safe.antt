@@ -8,13 +8,13 @@ use Rattle.lists.specs.Bytes.{within, any}
 use Rattle.lists.proofs.Bools.{apart}
 use Rattle.tlsa.specs.declared.Address.{Address}
 use Rattle.tlsa.specs.declared.Address.the-variants.{NoAliasSecure, NoAliasInsecure, AliasSecure, AliasFirstStepSecure, AliasFirstStepInsecure, Failed, NoAddress}
-use Rattle.tlsa.specs.Address.{TlsaName, expandedName, hostName, names, namesToTry}
+use Rattle.tlsa.specs.Address.{TlsaName, expandedName, hostName, questionOf, names, namesToTry}
 use Rattle.tlsa.specs.Record.{usable}
 use Rattle.tlsa.specs.Answer.{Answer, secure, insecure, absent, failed, secureRecords, readOf}
 use Rattle.certificates.specs.Checks.{references, danePasses}
 use Rattle.hosts.specs.Facts.{Base, Handshake, established, Place, first, second, tlsa, Full, value}
 use Rattle.hosts.specs.Facts as F
-use Rattle.hosts.specs.Tree.{Rules, verdictOf, reached}
+use Rattle.hosts.specs.Tree.{Rules, Question, verdictOf, reached}
 use Rattle.hosts.specs.Rules.{needsMtaSts, isListed, mtaStsPasses, Taken, nothing, set, needs, isTls, needsDane, needsAnything, takenPasses, lastVerdict, shaken, connect, domainOf, heed, seek, start, rules}
 use Rattle.hosts.specs.Arguments.{Arguments, baseOf}
 use Rattle.hosts.specs.Call.{hostAnswer}
@@ -68,60 +68,67 @@ module _ (b : Base) (f : Full) where
     safe-connect : SafeWith s (verdictOf (connect b s) f)
     safe-connect = by-cond (λ (t : Rules). SafeWith s (verdictOf t f)) (f .offered) (λ e. safe-shaken (f .outcome)) (λ e. safe-none 24 refl)
 
-  -- an answer is one of some
-  abbrev pub IsAmong : Answer → List Answer → Type 0
-  IsAmong a [] = ⊥
-  IsAmong a (x ∷ l) = (x ≡ a) ⊎ IsAmong a l
+  -- a question is one of some
+  abbrev pub IsAmong : Question → List Question → Type 0
+  IsAmong q [] = ⊥
+  IsAmong q (x ∷ qs) = (x ≡ q) ⊎ IsAmong q qs
 
-  -- a set that the rules read at the expanded name or at the host passes DANE
-  pub record DanePassed (l : List Answer) : Type 0 where
+  -- the question for the TLSA answer at a name, as the first or the second
+  abbrev pub questionAt : TlsaName → Place → Question
+  questionAt n p = record { number = questionOf n; fact = tlsa p }
+
+  -- the set that answers the question for a name passes DANE, with that name as the TLSA base domain
+  pub record DanePassed (qs : List Question) : Type 0 where
     pub name : TlsaName
+    pub place : Place
     pub records : List (List ℕ)
-    pub read : IsAmong (secure records) l
+    pub asked : IsAmong (questionAt name place) qs
+    pub answered : value f (tlsa place) ≡ secure records
     pub passes : danePasses (references (b .origin) (domainOf b name) (b .nextHop)) records (f .presented) ≡ true
 
-  abbrev Safe : List Answer → Rules → Type 0
-  Safe l t = delivers (verdictOf t f) ≡ true → (needsMtaSts b ≡ true → mtaStsPasses b (f .presented) ≡ true) × (noneUsable l ≡ false → DanePassed l)
+  -- of the answers l to the questions qs
+  abbrev Safe : List Answer → List Question → Rules → Type 0
+  Safe l qs t = delivers (verdictOf t f) ≡ true → (needsMtaSts b ≡ true → mtaStsPasses b (f .presented) ≡ true) × (noneUsable l ≡ false → DanePassed qs)
 
-  safe-nothing : Safe [] (connect b nothing)
+  safe-nothing : (qs : List Question) → Safe [] qs (connect b nothing)
   unfolding any
-  safe-nothing h = (safe-connect nothing (λ z. z) h .0, λ e. apart (sym e))
+  safe-nothing qs h = (safe-connect nothing (λ z. z) h .0, λ e. apart (sym e))
 
-  later-dane : (a : Answer) (l : List Answer) → DanePassed l → DanePassed (a ∷ l)
-  later-dane a l d = record { name = d .name; records = d .records; read = inr (d .read); passes = d .passes }
+  later-dane : (q : Question) (qs : List Question) → DanePassed qs → DanePassed (q ∷ qs)
+  later-dane q qs d = record { name = d .name; place = d .place; records = d .records; asked = inr (d .asked); answered = d .answered; passes = d .passes }
 
   usable-some : (x : Bool) → not (x || false) ≡ false → x ≡ true
   usable-some true h = refl
   usable-some false h = apart (sym h)
 
-  safe-taken : (n : TlsaName) (r : List ℕ) (rs : List (List ℕ)) → Safe (secure (r ∷ rs) ∷ []) (connect b (set (domainOf b n) (r ∷ rs)))
+  safe-taken : (n : TlsaName) (p : Place) (r : List ℕ) (rs : List (List ℕ)) (qs : List Question) → value f (tlsa p) ≡ secure (r ∷ rs) → Safe (secure (r ∷ rs) ∷ []) (questionAt n p ∷ qs) (connect b (set (domainOf b n) (r ∷ rs)))
   unfolding any
-  safe-taken n r rs h =
+  safe-taken n p r rs qs v h =
       let s : Taken = set (domainOf b n) (r ∷ rs) in
       let z = safe-connect s (λ x. tls-is r rs) h in
-      (z .0, λ e. record { name = n; records = r ∷ rs; read = inl refl; passes = z .1 (authentication-is (r ∷ rs) ∙ usable-some (any usable (r ∷ rs)) e) })
+      (z .0, λ e. record { name = n; place = p; records = r ∷ rs; asked = inl refl; answered = v; passes = z .1 (authentication-is (r ∷ rs) ∙ usable-some (any usable (r ∷ rs)) e) })
 
-  -- rules after the answer a
-  abbrev SafeAfter : Answer → Rules → Type 0
-  SafeAfter a t = Safe (a ∷ answersAt (reached t f) f) t
+  -- rules after the answer a at a name
+  abbrev SafeAfter : TlsaName → Place → Answer → Rules → Type 0
+  SafeAfter n p a t = value f (tlsa p) ≡ a → Safe (a ∷ answersAt (reached t f) f) (questionAt n p ∷ reached t f) t
 
-  safe-heed : (n : TlsaName) (next : Rules) → Safe (answersAt (reached next f) f) next → (a : Answer) → SafeAfter a (heed b (domainOf b n) (secureRecords a) next (readOf a))
+  safe-heed : (n : TlsaName) (p : Place) (next : Rules) → Safe (answersAt (reached next f) f) (reached next f) next → (a : Answer) → SafeAfter n p a (heed b (domainOf b n) (secureRecords a) next (readOf a))
   unfolding any
-  safe-heed n next ih = by-answer b (domainOf b n) next SafeAfter (λ h. apart h)
-      (λ h. (ih h .0, λ e. later-dane absent _ (ih h .1 e)))
-      (λ h. (ih h .0, λ e. later-dane insecure _ (ih h .1 e)))
-      (λ h. (ih h .0, λ e. later-dane (secure []) _ (ih h .1 e)))
-      (λ r rs e h. apart h)
-      (λ r rs e. subst (λ (l : List Answer). Safe (secure (r ∷ rs) ∷ l) (connect b (set (domainOf b n) (r ∷ rs)))) (sym (quiet-connect b f (set (domainOf b n) (r ∷ rs)) .0)) (safe-taken n r rs))
+  safe-heed n p next ih = by-answer b (domainOf b n) next (SafeAfter n p) (λ v h. apart h)
+      (λ v h. (ih h .0, λ e. later-dane _ _ (ih h .1 e)))
+      (λ v h. (ih h .0, λ e. later-dane _ _ (ih h .1 e)))
+      (λ v h. (ih h .0, λ e. later-dane _ _ (ih h .1 e)))
+      (λ r rs e v h. apart h)
+      (λ r rs e v. subst (λ (l : List Answer). Safe (secure (r ∷ rs) ∷ l) (questionAt n p ∷ reached (connect b (set (domainOf b n) (r ∷ rs))) f) (connect b (set (domainOf b n) (r ∷ rs)))) (sym (quiet-connect b f (set (domainOf b n) (r ∷ rs)) .0)) (safe-taken n p r rs _ v))
 
-  safe-seek : (p : Place) (ns : List TlsaName) → Safe (answersAt (reached (seek b p ns) f) f) (seek b p ns)
-  safe-seek p [] = subst (λ (l : List Answer). Safe l (connect b nothing)) (sym (quiet-connect b f nothing .0)) safe-nothing
-  safe-seek p (n ∷ ns) = safe-heed n (seek b second ns) (safe-seek second ns) (value f (tlsa p))
+  safe-seek : (p : Place) (ns : List TlsaName) → Safe (answersAt (reached (seek b p ns) f) f) (reached (seek b p ns) f) (seek b p ns)
+  safe-seek p [] = subst (λ (l : List Answer). Safe l (reached (connect b nothing) f) (connect b nothing)) (sym (quiet-connect b f nothing .0)) (safe-nothing _)
+  safe-seek p (n ∷ ns) = safe-heed n p (seek b second ns) (safe-seek second ns) (value f (tlsa p)) refl
 
-  safe-names : (ns : List TlsaName) → Safe (answersAt (reached (start b (names ns)) f) f) (start b (names ns))
-  safe-names ns = by-cond (λ (t : Rules). Safe (answersAt (reached t f) f) t) (needsMtaSts b && not (isListed b)) (λ e h. apart h) (λ e. safe-seek first ns)
+  safe-names : (ns : List TlsaName) → Safe (answersAt (reached (start b (names ns)) f) f) (reached (start b (names ns)) f) (start b (names ns))
+  safe-names ns = by-cond (λ (t : Rules). Safe (answersAt (reached t f) f) (reached t f) t) (needsMtaSts b && not (isListed b)) (λ e h. apart h) (λ e. safe-seek first ns)
 
-  safe-start : (a : Address) → Safe (answersAt (reached (start b (namesToTry a)) f) f) (start b (namesToTry a))
+  safe-start : (a : Address) → Safe (answersAt (reached (start b (namesToTry a)) f) f) (reached (start b (namesToTry a)) f) (start b (namesToTry a))
   safe-start NoAliasSecure = safe-names (hostName ∷ [])
   safe-start NoAliasInsecure = safe-names []
   safe-start AliasSecure = safe-names (expandedName ∷ hostName ∷ [])
@@ -130,11 +137,11 @@ module _ (b : Base) (f : Full) where
   safe-start Failed = λ h. apart h
   safe-start NoAddress = λ h. apart h
 
-  safe-rules : Safe (reachedAnswers b f) (rules b)
+  safe-rules : Safe (reachedAnswers b f) (reached (rules b) f) (rules b)
   unfolding rules
   safe-rules = safe-start (b .address)
 
--- whatever is delivered: under a live enforce policy the MTA-STS check passes, and where the rules read a usable secure record, a set that they read passes DANE
+-- whatever is delivered: under a live enforce policy the MTA-STS check passes, and where the rules read a usable secure record, the set that they take passes DANE, with the name at which it was asked for as the TLSA base domain
 pub delivers-safely : (a : Arguments) → IsFull a → delivers (hostAnswer a .number) ≡ true
-    → (needsMtaSts (baseOf a) ≡ true → mtaStsPasses (baseOf a) (fullOf a .presented) ≡ true) × (noneUsable (reachedAnswers (baseOf a) (fullOf a)) ≡ false → DanePassed (baseOf a) (fullOf a) (reachedAnswers (baseOf a) (fullOf a)))
+    → (needsMtaSts (baseOf a) ≡ true → mtaStsPasses (baseOf a) (fullOf a .presented) ≡ true) × (noneUsable (reachedAnswers (baseOf a) (fullOf a)) ≡ false → DanePassed (baseOf a) (fullOf a) (reached (rules (baseOf a)) (fullOf a)))
 delivers-safely a h d = safe-rules (baseOf a) (fullOf a) (subst (λ (n : ℕ). delivers n ≡ true) (full-number a h) d)

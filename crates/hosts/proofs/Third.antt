@@ -16,6 +16,7 @@ use Rattle.hosts.proofs.Logic.{holds, by-true}
 use Rattle.hosts.proofs.Trees.{KeptBy, Says, says, counted, Comes, comes, Two, Differ, Leaves, leaves}
 use Rattle.hosts.proofs.Values.{Ok, setOf, set-ok, nobody, nobody-ok}
 use Rattle.hosts.proofs.Shape.{isQuestion, question-no-verdict, each-rules, at-most-two}
+use Rattle.hosts.proofs.InOrder.{in-order}
 use Rattle.hosts.proofs.Matter.{matters-rules}
 use Rattle.hosts.proofs.Accepted.{Passes, walks, accepted-passes, given-ok, host-ok, expanded-ok}
 use Rattle.hosts.proofs.FullSets.{fullArguments, full-number, filled, filled-number, filled-keeps}
@@ -62,6 +63,7 @@ module _ (a : Arguments) (passed : IsPassed a) (p : Passes a) where
     exactly = (λ t c d k l. is-verdict c k ∙ sym (is-verdict d l), λ t. by-true (isVerdict v) w);
     verdict = λ t c k. is-verdict c k;
     question = λ t. absurd (t (by-true (isVerdict v) w));
+    order = λ c k. in-order (baseOf a) (fullOf c);
     count = λ c k. counted tree g (fullOf c) (kept c k);
     most = at-most-two (baseOf a) g;
     possible = possible;
@@ -79,6 +81,7 @@ module _ (a : Arguments) (passed : IsPassed a) (p : Passes a) where
         exactly = (λ t. absurd (question-no-verdict (q .number) w (holds (isVerdict (q .number)) t)), λ one. absurd (not-one (x l) one));
         verdict = λ t. absurd (question-no-verdict (q .number) w (holds (isVerdict (q .number)) t));
         question = λ t c k. s (fullOf c) (kept c k);
+        order = λ c k. in-order (baseOf a) (fullOf c);
         count = λ c k. counted tree g (fullOf c) (kept c k);
         most = at-most-two (baseOf a) g;
         possible = possible;

@@ -5,14 +5,14 @@ use mathlib.Core.Logic.{_↔_}
 use mathlib.Core.Bool.{Bool, true, false, not, cond, _&&_, _||_}
 use mathlib.Core.List.{List, [], _∷_}
 use mathlib.Core.Option.{Option, none, some}
-use lib.Dec.{T, eqb, leb}
+use lib.Dec.{T, eqb, leb, ltb}
 use Rattle.lists.specs.Bytes.{within, all, any}
 use Rattle.tlsa.specs.declared.Address.{Address}
 use Rattle.tlsa.specs.declared.Address.the-variants.{NoAliasSecure, NoAliasInsecure, AliasSecure, AliasFirstStepSecure, AliasFirstStepInsecure, Failed, NoAddress}
 use Rattle.tlsa.specs.Record.{short, usable}
 use Rattle.tlsa.specs.Answer.{Answer, absent, isFailed, secureRecords}
 use Rattle.hosts.specs.declared.HostAnswer.{HostAnswer}
-use Rattle.hosts.specs.Facts.{Base, Handshake, established, failed, second, Fact, tlsa, starttls, handshake, certificates, Value, Facts, Full, given, value, isGiven}
+use Rattle.hosts.specs.Facts.{Base, Handshake, established, failed, first, second, Fact, tlsa, starttls, handshake, certificates, Value, Facts, Full, given, value, isGiven}
 use Rattle.hosts.specs.Tree.{Question, reached, isTlsa}
 use Rattle.hosts.specs.Rules.{needsMtaSts, rules}
 use Rattle.hosts.specs.Arguments.{Arguments, baseOf, presentedIn, factsOf}
@@ -133,6 +133,19 @@ abbrev pub firstMissing : Facts → List Question → Option ℕ
 firstMissing g [] = none
 firstMissing g (q ∷ qs) = cond (isGiven (given g (q .fact))) (firstMissing g qs) (some (q .number))
 
+-- where a fact stands in document 01's order: TLSA answers, STARTTLS, handshake, certificate facts
+abbrev pub rank : Fact → ℕ
+rank (tlsa first) = 1
+rank (tlsa second) = 2
+rank starttls = 3
+rank handshake = 4
+rank certificates = 5
+
+-- each fact stands later than n, and than those before it
+abbrev pub isRising : ℕ → List Question → Bool
+isRising n [] = true
+isRising n (q ∷ qs) = ltb n (rank (q .fact)) && isRising (rank (q .fact)) qs
+
 -- the number of names whose given answers the rules read
 abbrev pub namesRead : Facts → List Question → ℕ
 namesRead g [] = 0
@@ -142,12 +155,13 @@ namesRead g (q ∷ qs) = cond (isGiven (given g (q .fact))) (isTlsa (q .fact) + 
 abbrev pub OneVerdict : Arguments → Type 0
 OneVerdict a = (c d : Arguments) → Keeps a c → Keeps a d → hostAnswer c .number ≡ hostAnswer d .number
 
--- the answer is final exactly when they have, and is then that verdict; otherwise it names the first fact that the rules reach and that isn't given.
--- The count is the number of names whose given answers the rules read, at most two. There is a full set, so none of this holds for want of one
+-- the answer is final exactly when they have, and is then that verdict; otherwise it names the first fact that the rules reach and that isn't given;
+-- what they reach comes in document 01's order. The count is the number of names whose given answers the rules read, at most two. There is a full set, so none of this holds for want of one
 pub record Settled (a : Arguments) (r : HostAnswer) : Type 0 where
   pub exactly : T (isVerdict (r .number)) ↔ OneVerdict a
   pub verdict : T (isVerdict (r .number)) → (c : Arguments) → Keeps a c → hostAnswer c .number ≡ r .number
   pub question : (T (isVerdict (r .number)) → ⊥) → (c : Arguments) → Keeps a c → firstMissing (factsOf a) (reached (rules (baseOf a)) (fullOf c)) ≡ some (r .number)
+  pub order : (c : Arguments) → Keeps a c → isRising 0 (reached (rules (baseOf a)) (fullOf c)) ≡ true
   pub count : (c : Arguments) → Keeps a c → r .«tlsa_questions» ≡ namesRead (factsOf a) (reached (rules (baseOf a)) (fullOf c))
   pub most : r .«tlsa_questions» ≤ 2
   pub possible : (c : Arguments) × Keeps a c

@@ -76,9 +76,9 @@ needsDane s = isAuthentication (needs s)
 abbrev pub needsAnything : Base → Taken → Bool
 needsAnything b s = isTls (needs s) || needsMtaSts b
 
--- DANE passes for the set taken
+-- DANE passes for the set taken; where none is, nothing passes
 abbrev pub takenPasses : Base → Taken → Presented → Bool
-takenPasses b nothing p = true
+takenPasses b nothing p = false
 takenPasses b (set domain records) p = danePasses (references (b .origin) domain (b .nextHop)) records p
 
 -- established: 26, then 27, then 5, 3, 4 or 2 by what was needed (DANE, MTA-STS) and passes; where both are needed, both must pass

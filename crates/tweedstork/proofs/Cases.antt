@@ -39,6 +39,7 @@ use Rattle.txt.specs.Txt as X
 
 -- what a case is about: the answer to a TXT record, whether a pattern matches a name, a policy's time left and whether it is live, the answer on a host
 pub data Case : Type 0 where
+  text-length : ℕ → Case
   record-read : TxtAnswer → Case
   name-matches : Bool → Case
   time-left : ℤ → Bool → Case
@@ -128,7 +129,8 @@ hostComputed = 0
 -- Hosts: secure, zero records, plain host, no policy, not offered: 1. The same with only a usage 1 record: 24. That record and TLS established: 2.
 -- Record 3 1 1 with the leaf's key digest, live enforce policy with a pattern for the host, no DNS-ID: 27
 pub cases :
-    txt (text "v=STSv1; id=20160831085700Z;")
+    text-length (length (text "v=STSv1; id=20160831085700Z;"))
+    ∷ txt (text "v=STSv1; id=20160831085700Z;")
     ∷ txt (text "v=STSv1; id=20160831085700Z")
     ∷ txt (text "v=STSv1; id=20160831085700Z; ;")
     ∷ name-matches (matchesName (text "*.example.com") (text "mail.example.com"))
@@ -141,7 +143,8 @@ pub cases :
     ∷ host (hostWith (numbersWith 2 1 1 0) (written (35 ∷ [])) usage1)
     ∷ host (hostWith (numbersWith 1 1 1 1) (written (35 ∷ [])) matching)
     ∷ []
-    ≡ accepted 12 15
+    ≡ text-length 28
+    ∷ accepted 12 15
     ∷ accepted 12 15
     ∷ malformed
     ∷ name-matches true

@@ -8,4 +8,5 @@ pub mod Reading
 pub mod Places
 pub mod Paper
 pub mod Sanity
+pub mod Exactly
 mod Worked
