@@ -21,7 +21,7 @@ OUT = target/c
 all: archive
 
 toolchain:
-	@command -v $(RT) >/dev/null 2>&1 || { echo "make: the Rattle toolchain is missing: put its command 'rt' on the PATH (README.md, \"What it needs\")" >&2; exit 1; }
+	@command -v $(RT) >/dev/null 2>&1 || { echo "make: the Rattle toolchain is missing: put its command 'rt' on the PATH (README.md, \"Two commands\")" >&2; exit 1; }
 
 # Proves what has changed since the last time and writes the archive; what the prover says is shown only where it refuses.
 archive: toolchain

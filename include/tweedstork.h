@@ -2,7 +2,8 @@
  * tweedstork.h: may a mail relay hand this message to that mail server, and how?
  *
  * The relay asks before it delivers, learns what the library asks for, and asks again. The rules are those of
- * MTA-STS (RFC 8461) and SMTP-DANE (RFC 7672). Every call is proved to answer as its definition says, for every input.
+ * MTA-STS (RFC 8461) and SMTP-DANE (RFC 7672). Every call of the archive is proved to answer as its definition says, for
+ * every input.
  *
  * What the library does not do:
  * - it has no resolver, no HTTPS, no TLS, no path checking and no hashing: the relay brings their results, and the answers are
@@ -12,7 +13,7 @@
  *
  * Conventions
  * - A number is a uint64_t. A byte slice is a pointer and a length; NULL with length 0 is an empty slice.
- * - A list of numbers is a byte slice, four bytes each, the highest first.
+ * - A list of numbers is a byte slice, four bytes each, the highest first. Left-over bytes get the list's refusal.
  * - An answer is a struct; its first field is the answer number, one of enum tweedstork_number. It is never zero.
  * - A refusal (40 to 67) has zero in every other field, and leaves lent memory as it was, but for 42 (see there).
  * - No call keeps a pointer, allocates or has state. Calls may run on any number of threads at once.
@@ -76,14 +77,16 @@ enum tweedstork_number {
     TWEEDSTORK_POLICY_MALFORMED = 51,       /* policy: malformed */
     TWEEDSTORK_POLICY_INCOMPLETE = 52,      /* policy: required field missing */
     TWEEDSTORK_BAD_NEXT_HOP = 60,           /* bad next-hop name */
-    TWEEDSTORK_BAD_HOST = 61,               /* bad host name, or bad expanded name of an alias */
+    TWEEDSTORK_BAD_HOST = 61,               /* bad host name, bad expanded name of an alias, or with no MX a
+                                               host that is not the next-hop */
     TWEEDSTORK_BAD_CLOCK = 62,              /* a clock above 253,402,300,799 */
     TWEEDSTORK_BAD_HOST_LIST = 63,          /* host list empty, over 32, lists of unequal length or with left-over bytes,
                                                a preference over 65,535, or a number that is no host verdict */
     TWEEDSTORK_BAD_TLSA = 64,               /* TLSA answer outside the limits */
     TWEEDSTORK_BAD_CERTIFICATES = 65,       /* certificate facts outside the limits */
     TWEEDSTORK_FACT_MISSING = 66,           /* a later fact given while an earlier needed one is missing */
-    TWEEDSTORK_BAD_CODE = 67                /* an input code or yes/no number outside its named choices, or over two TLSA answers */
+    TWEEDSTORK_BAD_CODE = 67                /* an input code or yes/no number (each of the paths too) outside its named choices,
+                                               or over two TLSA answers */
 };
 
 /* A short sentence for an answer number; for any other number, that it is none. Never NULL. */

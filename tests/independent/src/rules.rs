@@ -1,6 +1,6 @@
 //! The rules of document 01 ("What is being built, with exact rules"), written a second time and independently of the
 //! library: plain safe Rust over whole values, with no thought for speed. Comments quote document 01; "reading n" is the
-//! boundary page's list.
+//! list of readings in docs/DECISIONS.md.
 
 use std::ops::Deref;
 
@@ -284,7 +284,7 @@ pub struct TlsaAnswer<B = Vec<u8>> {
     pub records: B,
 }
 
-/// The arguments of a host call, named as on the boundary page; the bytes owned, or lent.
+/// The arguments of a host call, named as in the header; the bytes owned, or lent.
 #[derive(Clone, PartialEq, Debug, Default)]
 pub struct HostCall<B = Vec<u8>> {
     pub clock: u64,
