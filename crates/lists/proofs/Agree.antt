@@ -23,34 +23,41 @@ agree-apart p (x ∷ a) (y ∷ b) h = rw (agree-apart p a b (λ e. h (omega arit
 pub agree-length : (p : ℕ → ℕ → Bool) (a b : List ℕ) → (length a ≡ length b → ⊥) → false ≡ agree p a b
 agree-length p a b h = sym (agree-apart p a b h)
 
--- a turn of the loop, and its ends: r is what the code's call of p gave
-module _ (p : ℕ → ℕ → Bool) (a b : List ℕ) (i : ℕ) (inv : agree p a b ≡ agree p (drop i a) (drop i b)) (l : length a ≡ length b) where
+-- a turn of the loop from a place on, and its ends: r is what the code's call of p gave
+module _ (p : ℕ → ℕ → Bool) (a b : List ℕ) (from i : ℕ) (inv : agree p (drop from a) (drop from b) ≡ agree p (drop i a) (drop i b)) (l : length a ≡ length b) where
   module _ (h : i < length a) (r : Bool) (gave : r ≡ p (getD a i 0) (getD b i 0)) where
-    pub agree-next : r ≡ true → agree p a b ≡ agree p (drop (i + 1) a) (drop (i + 1) b)
+    pub agree-next-from : r ≡ true → agree p (drop from a) (drop from b) ≡ agree p (drop (i + 1) a) (drop (i + 1) b)
     unfolding agree
-    agree-next t =
+    agree-next-from t =
         let k : i < length b = omega arith in
         cc (drop-next a i h, drop-next b i k)
 
-    pub agree-differ : r ≡ false → false ≡ agree p a b
+    pub agree-differ-from : r ≡ false → false ≡ agree p (drop from a) (drop from b)
     unfolding agree
-    agree-differ t =
+    agree-differ-from t =
         let k : i < length b = omega arith in
         cc (drop-next a i h, drop-next b i k)
 
-  pub agree-end : length a ≤ i → true ≡ agree p a b
+  pub agree-end-from : length a ≤ i → true ≡ agree p (drop from a) (drop from b)
   unfolding agree
-  agree-end h =
+  agree-end-from h =
       let k : length b ≤ i = omega arith in
       cc (drop-of-length-le a h, drop-of-length-le b k)
 
 -- a function whose loop compares two slices: `search agree-laws` at each need
-pub ruleset agree-laws = (agree-length, agree-next, agree-differ, agree-end, not-true, not-false, needs)
+pub ruleset agree-laws = (agree-length, agree-next-from, agree-differ-from, agree-end-from, not-true, not-false, needs)
 
 -- `is_same_letter`: a and b are what `lower` gave
 pub letter-is : (a b x y : ℕ) → a ≡ lowerOf x → b ≡ lowerOf y → eqb a b ≡ sameLetter x y
 unfolding sameLetter
 letter-is a b x y e f = cc
+
+-- what is the same byte is the same letter
+pub letter-same : (x y : ℕ) → x ≡ y → true ≡ sameLetter x y
+unfolding sameLetter
+letter-same x y e = sym (eq-eqb (lowerOf x) (lowerOf y) cc)
+
+pub ruleset letter-laws = (letter-is, letter-same, needs)
 
 -- what agrees by a test that each element passes with itself: the list with itself
 pub agree-self : (p : ℕ → ℕ → Bool) → ((x : ℕ) → p x x ≡ true) → (a : List ℕ) → agree p a a ≡ true

@@ -6,3 +6,4 @@ pub mod Split
 pub mod Every
 pub mod Span
 pub mod Write
+pub mod Words

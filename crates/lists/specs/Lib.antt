@@ -4,3 +4,4 @@ pub mod Split
 pub mod Span
 pub mod Text
 pub mod Write
+pub mod Words

@@ -1,12 +1,13 @@
 // Bytes and lists of bytes, as the crates above share them.
 ghost use mathlib.Core.Path.{_≡_};
-ghost use mathlib.Core.Bool.{cond};
-ghost use Prim.Native.Nat.{_+_};
+ghost use mathlib.Core.Bool.{cond, true};
+ghost use Prim.Native.Nat.{_+_, _<_, _≤_};
 ghost use lib.Dec.{leb};
 ghost use lib.ListN.{length, drop};
-ghost use Rattle.lists.specs.Bytes.{within, lowerOf};
+ghost use Rattle.lists.specs.Bytes.{within, all, lowerOf};
 ghost use Rattle.lists.specs.Equal.{sameByte, sameLetter, sameBytes, sameText};
 ghost use Rattle.lists.specs.Split.{indexOf};
+ghost use Rattle.lists.specs.Words.{isByte, numberOf, eightAt};
 ghost use Rattle.lists.specs.Write.{wroteFront};
 
 // Whether b stands between lo and hi, both included.
@@ -46,19 +47,53 @@ pub fn is_same_byte(x: u8, y: u8) -> bool
 pub fn is_same_letter(x: u8, y: u8) -> bool
     ensures { λ r. ⌜ r ≡ sameLetter x y ⌝ }
 {
+    if x == y {
+        return true;
+    }
     let a = lower(x);
     let b = lower(y);
     a == b
 }
 
-// Whether a and b are the same bytes.
-pub fn equal(a: &[u8], b: &[u8]) -> bool
-    ensures { λ r. ⌜ r ≡ sameBytes (now (a .entry)) (now (b .entry)) ⌝ }
+// A byte as a wide number.
+pub fn wide(x: u8) -> u64
+    ensures { λ r. ⌜ (r ≡ x) × (r < 256) ⌝ }
 {
-    if a.len() != b.len() {
-        return false;
-    }
-    let mut i = 0;
+    x as u64
+}
+
+// The eight bytes of s from i on as one number, the lowest first.
+fn eight_at(s: &[u8], i: usize) -> u64
+    requires { ⌜ i + 8 ≤ length (now s) ⌝ }
+    ensures { λ r. ⌜ (r ≡ numberOf (eightAt (now (s .entry)) i)) × (all isByte (eightAt (now (s .entry)) i) ≡ true) ⌝ }
+{
+    let a = wide(s[i]);
+    let b = wide(s[i + 1]);
+    let c = wide(s[i + 2]);
+    let d = wide(s[i + 3]);
+    let e = wide(s[i + 4]);
+    let f = wide(s[i + 5]);
+    let g = wide(s[i + 6]);
+    let h = wide(s[i + 7]);
+    a + 256 * (b + 256 * (c + 256 * (d + 256 * (e + 256 * (f + 256 * (g + 256 * h))))))
+}
+
+// Whether the eight bytes of a and of b from i on are the same.
+fn is_same_eight(a: &[u8], b: &[u8], i: usize) -> bool
+    requires { ⌜ (i + 8 ≤ length (now a)) × (i + 8 ≤ length (now b)) ⌝ }
+    ensures { λ r. ⌜ r ≡ sameBytes (eightAt (now (a .entry)) i) (eightAt (now (b .entry)) i) ⌝ }
+{
+    let x = eight_at(a, i);
+    let y = eight_at(b, i);
+    x == y
+}
+
+// Whether a and b are the same bytes from i on.
+fn equal_from(a: &[u8], b: &[u8], from: usize) -> bool
+    requires { ⌜ (from ≤ length (now a)) × (length (now a) ≡ length (now b)) ⌝ }
+    ensures { λ r. ⌜ r ≡ sameBytes (drop from (now (a .entry))) (drop from (now (b .entry))) ⌝ }
+{
+    let mut i = from;
     while i < a.len() {
         let same = is_same_byte(a[i], b[i]);
         if !same {
@@ -69,14 +104,30 @@ pub fn equal(a: &[u8], b: &[u8]) -> bool
     true
 }
 
-// Whether a and b are the same text, ignoring ASCII case.
-pub fn equal_ignoring_case(a: &[u8], b: &[u8]) -> bool
-    ensures { λ r. ⌜ r ≡ sameText (now (a .entry)) (now (b .entry)) ⌝ }
+// Whether a and b are the same bytes. They are compared eight at a time, and then what is left.
+pub fn equal(a: &[u8], b: &[u8]) -> bool
+    ensures { λ r. ⌜ r ≡ sameBytes (now (a .entry)) (now (b .entry)) ⌝ }
 {
     if a.len() != b.len() {
         return false;
     }
     let mut i = 0;
+    while 8 <= a.len() - i {
+        let same = is_same_eight(a, b, i);
+        if !same {
+            return false;
+        }
+        i += 8;
+    }
+    equal_from(a, b, i)
+}
+
+// Whether a and b are the same text from i on, ignoring ASCII case.
+fn equal_ignoring_case_from(a: &[u8], b: &[u8], from: usize) -> bool
+    requires { ⌜ (from ≤ length (now a)) × (length (now a) ≡ length (now b)) ⌝ }
+    ensures { λ r. ⌜ r ≡ sameText (drop from (now (a .entry))) (drop from (now (b .entry))) ⌝ }
+{
+    let mut i = from;
     while i < a.len() {
         let same = is_same_letter(a[i], b[i]);
         if !same {
@@ -85,6 +136,24 @@ pub fn equal_ignoring_case(a: &[u8], b: &[u8]) -> bool
         i += 1;
     }
     true
+}
+
+// Whether a and b are the same text, ignoring ASCII case. They are compared eight bytes at a time as far as these are the same, and then letter by letter.
+pub fn equal_ignoring_case(a: &[u8], b: &[u8]) -> bool
+    ensures { λ r. ⌜ r ≡ sameText (now (a .entry)) (now (b .entry)) ⌝ }
+{
+    if a.len() != b.len() {
+        return false;
+    }
+    let mut i = 0;
+    while 8 <= a.len() - i {
+        let same = is_same_eight(a, b, i);
+        if !same {
+            return equal_ignoring_case_from(a, b, i);
+        }
+        i += 8;
+    }
+    equal_ignoring_case_from(a, b, i)
 }
 
 // The index of the first b of s at or after `from`, or the length of s where there is none; `from` where it is past the end.

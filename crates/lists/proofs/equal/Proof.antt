@@ -3,7 +3,7 @@ use Prim.Native.Nat.{_≤_, _-_}
 use mathlib.Core.Path.{_≡_}
 use lib.ListN.{length, drop}
 use Rattle.lists.specs.Equal.{sameBytes}
-use Rattle.lists.proofs.Agree.{agree-laws}
+use Rattle.lists.proofs.Words.{eight-laws}
 use Rattle.lists.proofs.equal.Statement.{statement}
 use Rattle.lists.proofs.equal.Tie as tie
 
@@ -14,34 +14,34 @@ abbrev μ-loop : tie.MeasureT-loop
 μ-loop a b i₀ i = length a - i
 
 returns : tie.Need-returns Inv-loop μ-loop
-returns c = search agree-laws
+returns c = search eight-laws
 
 loop-holds : tie.Need-loop-holds Inv-loop μ-loop
-loop-holds c = search agree-laws
+loop-holds c = search eight-laws
 
-shared-slice-read-is-same-byte : tie.Need-shared-slice-read-is-same-byte Inv-loop μ-loop
-shared-slice-read-is-same-byte c = search agree-laws
+sub-loop : tie.Need-sub-loop Inv-loop μ-loop
+sub-loop c = search eight-laws
 
-shared-slice-read-is-same-byte-2 : tie.Need-shared-slice-read-is-same-byte-2 Inv-loop μ-loop
-shared-slice-read-is-same-byte-2 c = search agree-laws
-
-is-same-byte-requires : tie.Need-is-same-byte-requires Inv-loop μ-loop
-is-same-byte-requires c κs = search agree-laws
+is-same-eight-requires : tie.Need-is-same-eight-requires Inv-loop μ-loop
+is-same-eight-requires c κs = search eight-laws
 
 returns-2 : tie.Need-returns-2 Inv-loop μ-loop
-returns-2 c = search agree-laws
+returns-2 c = search eight-laws
 
 add-i : tie.Need-add-i Inv-loop μ-loop
-add-i c = search agree-laws
+add-i c = search eight-laws
 
 loop-less : tie.Need-loop-less Inv-loop μ-loop
-loop-less c = search agree-laws
+loop-less c = search eight-laws
 
 loop-again : tie.Need-loop-again Inv-loop μ-loop
-loop-again c = search agree-laws
+loop-again c = search eight-laws
+
+equal-from-requires : tie.Need-equal-from-requires Inv-loop μ-loop
+equal-from-requires c κs = search eight-laws
 
 returns-3 : tie.Need-returns-3 Inv-loop μ-loop
-returns-3 c = search agree-laws
+returns-3 c = search eight-laws
 
 pub equal-spec : {M : Type 1} → statement M
 equal-spec =
@@ -51,11 +51,11 @@ equal-spec =
     μ-loop
     returns
     loop-holds
-    shared-slice-read-is-same-byte
-    shared-slice-read-is-same-byte-2
-    is-same-byte-requires
+    sub-loop
+    is-same-eight-requires
     returns-2
     add-i
     loop-less
     loop-again
+    equal-from-requires
     returns-3)

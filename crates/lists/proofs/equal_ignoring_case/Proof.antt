@@ -3,7 +3,7 @@ use Prim.Native.Nat.{_≤_, _-_}
 use mathlib.Core.Path.{_≡_}
 use lib.ListN.{length, drop}
 use Rattle.lists.specs.Equal.{sameText}
-use Rattle.lists.proofs.Agree.{agree-laws}
+use Rattle.lists.proofs.Words.{eight-laws}
 use Rattle.lists.proofs.equal_ignoring_case.Statement.{statement}
 use Rattle.lists.proofs.equal_ignoring_case.Tie as tie
 
@@ -14,34 +14,37 @@ abbrev μ-loop : tie.MeasureT-loop
 μ-loop a b i₀ i = length a - i
 
 returns : tie.Need-returns Inv-loop μ-loop
-returns c = search agree-laws
+returns c = search eight-laws
 
 loop-holds : tie.Need-loop-holds Inv-loop μ-loop
-loop-holds c = search agree-laws
+loop-holds c = search eight-laws
 
-shared-slice-read-is-same-letter : tie.Need-shared-slice-read-is-same-letter Inv-loop μ-loop
-shared-slice-read-is-same-letter c = search agree-laws
+sub-loop : tie.Need-sub-loop Inv-loop μ-loop
+sub-loop c = search eight-laws
 
-shared-slice-read-is-same-letter-2 : tie.Need-shared-slice-read-is-same-letter-2 Inv-loop μ-loop
-shared-slice-read-is-same-letter-2 c = search agree-laws
+is-same-eight-requires : tie.Need-is-same-eight-requires Inv-loop μ-loop
+is-same-eight-requires c κs = search eight-laws
 
-is-same-letter-requires : tie.Need-is-same-letter-requires Inv-loop μ-loop
-is-same-letter-requires c κs = search agree-laws
+equal-ignoring-case-from-requires : tie.Need-equal-ignoring-case-from-requires Inv-loop μ-loop
+equal-ignoring-case-from-requires c κs = search eight-laws
 
 returns-2 : tie.Need-returns-2 Inv-loop μ-loop
-returns-2 c = search agree-laws
+returns-2 c = search eight-laws
 
 add-i : tie.Need-add-i Inv-loop μ-loop
-add-i c = search agree-laws
+add-i c = search eight-laws
 
 loop-less : tie.Need-loop-less Inv-loop μ-loop
-loop-less c = search agree-laws
+loop-less c = search eight-laws
 
 loop-again : tie.Need-loop-again Inv-loop μ-loop
-loop-again c = search agree-laws
+loop-again c = search eight-laws
+
+equal-ignoring-case-from-requires-2 : tie.Need-equal-ignoring-case-from-requires-2 Inv-loop μ-loop
+equal-ignoring-case-from-requires-2 c κs = search eight-laws
 
 returns-3 : tie.Need-returns-3 Inv-loop μ-loop
-returns-3 c = search agree-laws
+returns-3 c = search eight-laws
 
 pub equal-ignoring-case-spec : {M : Type 1} → statement M
 equal-ignoring-case-spec =
@@ -51,11 +54,12 @@ equal-ignoring-case-spec =
     μ-loop
     returns
     loop-holds
-    shared-slice-read-is-same-letter
-    shared-slice-read-is-same-letter-2
-    is-same-letter-requires
+    sub-loop
+    is-same-eight-requires
+    equal-ignoring-case-from-requires
     returns-2
     add-i
     loop-less
     loop-again
+    equal-ignoring-case-from-requires-2
     returns-3)

@@ -1,0 +1,127 @@
+-- Lists of bytes compared as numbers, eight bytes at a time: the laws, and the turn of a loop. Assumes nothing.
+use Prim.Native.Nat.{ℕ, zero, suc, _+_, _*_, _<_, _≤_}
+use mathlib.Core.Path.{_≡_, refl, sym, _∙_}
+use mathlib.Core.Bool.{Bool, true, false, _&&_}
+use mathlib.Core.List.{List, [], _∷_}
+use native.Mathlib.Nat.{add-zero}
+use native.Mathlib.Omega.{arith}
+use lib.Dec.{eqb, leb}
+use lib.ListN.{length, getD, take, drop, length-drop}
+use lib.Seq.{getD-drop, drop-drop}
+use borrow.Author.Needs.{needs}
+use borrow.Author.Tests.{not-true, not-false, eq-eqb, ne-eqb, eqb-true, le-leb, leb-true}
+use Rattle.lists.specs.Bytes.{all, lowerOf}
+use Rattle.lists.specs.Equal.{agree, sameByte, sameLetter}
+use Rattle.lists.specs.Words.{isByte, numberOf, eightAt}
+use Rattle.lists.proofs.Agree.{agree-length, letter-same}
+use Rattle.lists.proofs.Bools.{apart, and-left, and-right, and-assoc}
+
+-- the first eight of a list
+front-eight : (u : List ℕ) → 8 ≤ length u → take 8 u ≡ getD u 0 0 ∷ getD u 1 0 ∷ getD u 2 0 ∷ getD u 3 0 ∷ getD u 4 0 ∷ getD u 5 0 ∷ getD u 6 0 ∷ getD u 7 0 ∷ []
+front-eight [] h = absurd (omega arith)
+front-eight (a ∷ []) h = absurd (omega arith)
+front-eight (a ∷ b ∷ []) h = absurd (omega arith)
+front-eight (a ∷ b ∷ c ∷ []) h = absurd (omega arith)
+front-eight (a ∷ b ∷ c ∷ d ∷ []) h = absurd (omega arith)
+front-eight (a ∷ b ∷ c ∷ d ∷ e ∷ []) h = absurd (omega arith)
+front-eight (a ∷ b ∷ c ∷ d ∷ e ∷ f ∷ []) h = absurd (omega arith)
+front-eight (a ∷ b ∷ c ∷ d ∷ e ∷ f ∷ g ∷ []) h = absurd (omega arith)
+front-eight (a ∷ b ∷ c ∷ d ∷ e ∷ f ∷ g ∷ k ∷ u) h = refl
+
+eight-is : (s : List ℕ) (i : ℕ) → i + 8 ≤ length s → eightAt s i ≡ getD s i 0 ∷ getD s (i + 1) 0 ∷ getD s (i + 2) 0 ∷ getD s (i + 3) 0 ∷ getD s (i + 4) 0 ∷ getD s (i + 5) 0 ∷ getD s (i + 6) 0 ∷ getD s (i + 7) 0 ∷ []
+eight-is s i h =
+    let l : 8 ≤ length (drop i s) = omega (arith, length-drop i s) in
+    let e : take 8 (drop i s) ≡ getD (drop i s) 0 0 ∷ getD (drop i s) 1 0 ∷ getD (drop i s) 2 0 ∷ getD (drop i s) 3 0 ∷ getD (drop i s) 4 0 ∷ getD (drop i s) 5 0 ∷ getD (drop i s) 6 0 ∷ getD (drop i s) 7 0 ∷ [] = front-eight (drop i s) l in
+    simp (getD-drop, add-zero) at e
+
+byte-is : (b : ℕ) → b < 256 → isByte b ≡ true
+unfolding isByte
+byte-is b h = le-leb b 255 (omega arith)
+
+byte-below : (b : ℕ) → isByte b ≡ true → b < 256
+unfolding isByte
+byte-below b h = let k : b ≤ 255 = leb-true b 255 h in omega arith
+
+-- `eight_at`: a to h are the bytes
+pub eight-number : (s : List ℕ) (i : ℕ) (a b c d e f g h : ℕ) → i + 8 ≤ length s → a ≡ getD s i 0 → b ≡ getD s (i + 1) 0 → c ≡ getD s (i + 2) 0 → d ≡ getD s (i + 3) 0 → e ≡ getD s (i + 4) 0 → f ≡ getD s (i + 5) 0 → g ≡ getD s (i + 6) 0 → h ≡ getD s (i + 7) 0 → a + 256 * (b + 256 * (c + 256 * (d + 256 * (e + 256 * (f + 256 * (g + 256 * h)))))) ≡ numberOf (eightAt s i)
+unfolding numberOf
+eight-number s i a b c d e f g h l pa pb pc pd pe pf pg ph = rw (eight-is s i l, sym pa, sym pb, sym pc, sym pd, sym pe, sym pf, sym pg, sym ph) (omega arith)
+
+pub eight-bytes : (s : List ℕ) (i : ℕ) (a b c d e f g h : ℕ) → i + 8 ≤ length s → a ≡ getD s i 0 → b ≡ getD s (i + 1) 0 → c ≡ getD s (i + 2) 0 → d ≡ getD s (i + 3) 0 → e ≡ getD s (i + 4) 0 → f ≡ getD s (i + 5) 0 → g ≡ getD s (i + 6) 0 → h ≡ getD s (i + 7) 0 → a < 256 → b < 256 → c < 256 → d < 256 → e < 256 → f < 256 → g < 256 → h < 256 → all isByte (eightAt s i) ≡ true
+unfolding all
+eight-bytes s i a b c d e f g h l pa pb pc pd pe pf pg ph la lb lc ld le lf lg lh =
+    rw (eight-is s i l, sym pa, sym pb, sym pc, sym pd, sym pe, sym pf, sym pg, sym ph, byte-is a la, byte-is b lb, byte-is c lc, byte-is d ld, byte-is e le, byte-is f lf, byte-is g lg, byte-is h lh) refl
+
+-- two numbers are equal exactly where their lowest bytes and the rest are
+two-bytes : (b d m n : ℕ) → b < 256 → d < 256 → eqb (b + 256 * m) (d + 256 * n) ≡ (eqb b d && eqb m n)
+two-bytes b d m n hb hd = go (eqb b d) (eqb m n) refl refl
+  where
+    go : (t u : Bool) → eqb b d ≡ t → eqb m n ≡ u → eqb (b + 256 * m) (d + 256 * n) ≡ (t && u)
+    go true true p q =
+        let x : b ≡ d = eqb-true b d p in
+        let y : m ≡ n = eqb-true m n q in
+        eq-eqb (b + 256 * m) (d + 256 * n) (omega arith)
+    go true false p q = ne-eqb (b + 256 * m) (d + 256 * n) (λ e. let z : m ≡ n = omega arith in apart (sym q ∙ eq-eqb m n z))
+    go false u p q = ne-eqb (b + 256 * m) (d + 256 * n) (λ e. let z : b ≡ d = omega arith in apart (sym p ∙ eq-eqb b d z))
+
+-- lists of bytes of one length are the same exactly where their numbers are
+pub numbers-same : (x y : List ℕ) → length x ≡ length y → all isByte x ≡ true → all isByte y ≡ true → eqb (numberOf x) (numberOf y) ≡ agree sameByte x y
+unfolding all numberOf agree sameByte
+numbers-same [] [] l h k = refl
+numbers-same [] (d ∷ y) l h k = absurd (omega arith)
+numbers-same (b ∷ x) [] l h k = absurd (omega arith)
+numbers-same (b ∷ x) (d ∷ y) l h k =
+    let hb : b < 256 = byte-below b (and-left (isByte b) (all isByte x) h) in
+    let hd : d < 256 = byte-below d (and-left (isByte d) (all isByte y) k) in
+    let ih : eqb (numberOf x) (numberOf y) ≡ agree sameByte x y = numbers-same x y (omega arith) (and-right (isByte b) (all isByte x) h) (and-right (isByte d) (all isByte y) k) in
+    rw (two-bytes b d (numberOf x) (numberOf y) hb hd, ih) refl
+
+-- comparing is comparing the first n and then the rest
+agree-cut : (p : ℕ → ℕ → Bool) (n : ℕ) (x y : List ℕ) → agree p x y ≡ (agree p (take n x) (take n y) && agree p (drop n x) (drop n y))
+unfolding agree
+agree-cut p zero x y = refl
+agree-cut p (suc n) [] [] = refl
+agree-cut p (suc n) [] (b ∷ y) = refl
+agree-cut p (suc n) (a ∷ x) [] = refl
+agree-cut p (suc n) (a ∷ x) (b ∷ y) = rw (agree-cut p n x y) (sym (and-assoc (p a b) (agree p (take n x) (take n y)) (agree p (drop n x) (drop n y))))
+
+-- `is_same_eight`: x and y are what `eight_at` gave
+pub eight-same : (a b : List ℕ) (i x y : ℕ) → i + 8 ≤ length a → i + 8 ≤ length b → x ≡ numberOf (eightAt a i) → all isByte (eightAt a i) ≡ true → y ≡ numberOf (eightAt b i) → all isByte (eightAt b i) ≡ true → eqb x y ≡ agree sameByte (eightAt a i) (eightAt b i)
+eight-same a b i x y ka kb px ha py hb =
+    let l : length (eightAt a i) ≡ length (eightAt b i) = rw (eight-is a i ka, eight-is b i kb) refl in
+    rw (px, py) (numbers-same (eightAt a i) (eightAt b i) l ha hb)
+
+-- a turn of the loop, and its ends: r is what `is_same_eight` gave
+module _ (p : ℕ → ℕ → Bool) (a b : List ℕ) (i : ℕ) (inv : agree p a b ≡ agree p (drop i a) (drop i b)) where
+  pub eight-next : agree p (eightAt a i) (eightAt b i) ≡ true → agree p a b ≡ agree p (drop (i + 8) a) (drop (i + 8) b)
+  eight-next h = inv ∙ (agree-cut p 8 (drop i a) (drop i b) ∙ rw (h, drop-drop 8 i a, drop-drop 8 i b) refl)
+
+  pub eight-differ : agree p (eightAt a i) (eightAt b i) ≡ false → false ≡ agree p a b
+  eight-differ h = sym (inv ∙ (agree-cut p 8 (drop i a) (drop i b) ∙ rw h refl))
+
+-- what is the same byte by byte is the same letter by letter
+agree-more : (x y : List ℕ) → agree sameByte x y ≡ true → agree sameLetter x y ≡ true
+unfolding agree sameByte
+agree-more [] [] h = refl
+agree-more [] (d ∷ y) h = apart h
+agree-more (b ∷ x) [] h = apart h
+agree-more (b ∷ x) (d ∷ y) h =
+    let e : b ≡ d = eqb-true b d (and-left (eqb b d) (agree sameByte x y) h) in
+    let k : agree sameLetter x y ≡ true = agree-more x y (and-right (eqb b d) (agree sameByte x y) h) in
+    rw (sym (letter-same b d e), k) refl
+
+module _ (a b : List ℕ) (i : ℕ) (r : Bool) (gave : r ≡ agree sameByte (eightAt a i) (eightAt b i)) where
+  pub same-next : agree sameByte a b ≡ agree sameByte (drop i a) (drop i b) → r ≡ true → agree sameByte a b ≡ agree sameByte (drop (i + 8) a) (drop (i + 8) b)
+  same-next inv t = eight-next sameByte a b i inv (sym gave ∙ t)
+
+  pub same-differ : agree sameByte a b ≡ agree sameByte (drop i a) (drop i b) → r ≡ false → false ≡ agree sameByte a b
+  same-differ inv t = eight-differ sameByte a b i inv (sym gave ∙ t)
+
+  pub letters-next : agree sameLetter a b ≡ agree sameLetter (drop i a) (drop i b) → r ≡ true → agree sameLetter a b ≡ agree sameLetter (drop (i + 8) a) (drop (i + 8) b)
+  letters-next inv t = eight-next sameLetter a b i inv (agree-more (eightAt a i) (eightAt b i) (sym gave ∙ t))
+
+-- the rest, by what the loop over single bytes gave
+pub agree-rest : (p : ℕ → ℕ → Bool) (a b : List ℕ) (i : ℕ) (r : Bool) → agree p a b ≡ agree p (drop i a) (drop i b) → r ≡ agree p (drop i a) (drop i b) → r ≡ agree p a b
+agree-rest p a b i r inv gave = gave ∙ sym inv
+
+pub ruleset eight-laws = (agree-length, eight-number, eight-bytes, eight-same, same-next, same-differ, letters-next, agree-rest, not-true, not-false, needs)
