@@ -1,6 +1,6 @@
 -- The ways out of `write_one` and `read_txt`: what they answer, and what they leave in the output. Assumes nothing.
 use Prim.Native.Nat.{ℕ, _+_, _-_, _<_, _≤_}
-use mathlib.Core.Path.{_≡_, refl, ap, subst, _∙_}
+use mathlib.Core.Path.{_≡_, refl, sym, ap, subst, _∙_}
 use mathlib.Core.Bool.{Bool, true, false}
 use mathlib.Core.List.{List, [], _∷_, _++_}
 use native.Mathlib.Omega.{arith}
@@ -10,13 +10,15 @@ use borrow.Author.Needs.{needs}
 use borrow.Author.Tests.{not-true, not-false, le-leb, lt-leb}
 use Rattle.lists.specs.Span.{begins}
 use Rattle.lists.specs.Text.{text}
+use Rattle.numbers.specs.Numbers.{isWhole}
 use Rattle.txt.specs.declared.TxtAnswer.{TxtAnswer}
 use Rattle.txt.specs.declared.Found.{Found}
-use Rattle.txt.specs.Rdata.{isWireForm, joined, texts}
+use Rattle.txt.specs.Rdata.{isWireForm, joined}
 use Rattle.txt.specs.Grammar.{version}
-use Rattle.txt.specs.Txt.{isCandidate, candidates, Outcome, refused, wrote, chosen, outcome, refusal, grammar, answerOf, outputOf, readTxt, wroteTxt}
-use Rattle.txt.specs.Steps.{FoundIs, OneIs}
+use Rattle.txt.specs.Txt.{isCandidate, Outcome, refused, wrote, chosen, outcome, refusal, grammar, answerOf, outputOf, readTxt, wroteTxt}
+use Rattle.txt.specs.Steps.{OneIs, SeenIs, FoundIs, wireFrom, candidatesFrom}
 use Rattle.txt.proofs.General.{begins-front}
+use Rattle.txt.proofs.Candidates.{wire-odd, wire-whole, found-start}
 
 -- a candidate begins with the version
 pub candidate-version : (t : List ℕ) → isCandidate t ≡ true → begins version t ≡ true
@@ -90,29 +92,47 @@ refused-kept : (s l d : List ℕ) (n : ℕ) → outcome s l (length d) ≡ refus
 unfolding outputOf
 refused-kept s l d n is = output-by s l d (refused n) is
 
--- `read_txt`
-module _ (s l d : List ℕ) (good : Bool) (gave : good ≡ isWireForm s l) where
-  module _ (f : good ≡ false) where
-    broken : outcome s l (length d) ≡ refused 43
+-- `read_txt`: w is what `is_whole` gave
+module _ (s l d : List ℕ) (w : Bool) (gave : w ≡ isWhole l) where
+  broken-by : isWireForm s l ≡ false → outcome s l (length d) ≡ refused 43
+  unfolding outcome
+  broken-by f = rw f
+
+  module _ (f : w ≡ false) where
+    odd : outcome s l (length d) ≡ refused 43
+    odd = broken-by (wire-odd s l (sym gave ∙ f))
+
+    pub odd-answer : (x : TxtAnswer) → x ≡ refusal 43 → x ≡ readTxt s l (length d)
+    odd-answer x e = refused-answer s l d 43 odd x e
+
+    pub odd-kept : d ≡ wroteTxt s l d
+    odd-kept = refused-kept s l d 43 odd
+
+  module _ (y : w ≡ true) (r : Found) (is : FoundIs s l r) where
+    wire : isWireForm s l ≡ wireFrom s l 0 0
+    wire = wire-whole s l (sym gave ∙ y)
+
+    -- a broken wire form
+    module _ (q : r ≡ Found.Broken) where
+      broken : outcome s l (length d) ≡ refused 43
+      unfolding FoundIs
+      broken = broken-by (wire ∙ subst (λ (z : Found). FoundIs s l z) q is)
+
+      pub broken-answer : (x : TxtAnswer) → x ≡ refusal 43 → x ≡ readTxt s l (length d)
+      broken-answer x e = refused-answer s l d 43 broken x e
+
+      pub broken-kept : d ≡ wroteTxt s l d
+      broken-kept = refused-kept s l d 43 broken
+
+    sound : wireFrom s l 0 0 ≡ true → outcome s l (length d) ≡ chosen (candidatesFrom s l 0 0) (length d)
     unfolding outcome
-    broken = cc
-
-    pub broken-answer : (x : TxtAnswer) → x ≡ refusal 43 → x ≡ readTxt s l (length d)
-    broken-answer x e = refused-answer s l d 43 broken x e
-
-    pub broken-kept : d ≡ wroteTxt s l d
-    broken-kept = refused-kept s l d 43 broken
-
-  module _ (y : good ≡ true) (r : Found) (is : FoundIs s (candidates (texts s l)) r) where
-    sound : outcome s l (length d) ≡ chosen (candidates (texts s l)) (length d)
-    unfolding outcome
-    sound = cc
+    sound t = rw (wire, t, found-start s l)
 
     -- none
     module _ (q : r ≡ Found.Nothing) where
       none-left : outcome s l (length d) ≡ refused 40
-      unfolding FoundIs
-      none-left = sound ∙ chosen-none (candidates (texts s l)) (length d) (subst (λ (z : Found). FoundIs s (candidates (texts s l)) z) q is)
+      unfolding FoundIs SeenIs
+      none-left = let f : (wireFrom s l 0 0 ≡ true) × (candidatesFrom s l 0 0 ≡ []) = subst (λ (z : Found). FoundIs s l z) q is in sound (f .0) ∙ chosen-none (candidatesFrom s l 0 0) (length d) (f .1)
 
       pub none-answer : (x : TxtAnswer) → x ≡ refusal 40 → x ≡ readTxt s l (length d)
       none-answer x e = refused-answer s l d 40 none-left x e
@@ -123,8 +143,8 @@ module _ (s l d : List ℕ) (good : Bool) (gave : good ≡ isWireForm s l) where
     -- several
     module _ (q : r ≡ Found.Several) where
       several : outcome s l (length d) ≡ refused 41
-      unfolding FoundIs
-      several = sound ∙ chosen-several (candidates (texts s l)) (length d) (subst (λ (z : Found). FoundIs s (candidates (texts s l)) z) q is)
+      unfolding FoundIs SeenIs
+      several = let f : (wireFrom s l 0 0 ≡ true) × (2 ≤ length (candidatesFrom s l 0 0)) = subst (λ (z : Found). FoundIs s l z) q is in sound (f .0) ∙ chosen-several (candidatesFrom s l 0 0) (length d) (f .1)
 
       pub several-answer : (x : TxtAnswer) → x ≡ refusal 41 → x ≡ readTxt s l (length d)
       several-answer x e = refused-answer s l d 41 several x e
@@ -134,21 +154,21 @@ module _ (s l d : List ℕ) (good : Bool) (gave : good ≡ isWireForm s l) where
 
     -- one, the RDATA from a to e
     module _ (a e : ℕ) (q : r ≡ Found.One a e) where
-      is-one : OneIs s (candidates (texts s l)) a e
-      unfolding FoundIs
-      is-one = subst (λ (z : Found). FoundIs s (candidates (texts s l)) z) q is
+      is-one : (wireFrom s l 0 0 ≡ true) × (OneIs s (candidatesFrom s l 0 0) [] a e)
+      unfolding FoundIs SeenIs
+      is-one = subst (λ (z : Found). FoundIs s l z) q is
 
       one : outcome s l (length d) ≡ chosen (joined (take (e - a) (drop a s)) ∷ []) (length d)
-      one = sound ∙ rw (is-one .only)
+      one = sound (is-one .0) ∙ rw (is-one .1 .first)
 
       pub one-order : a ≤ e
-      one-order = is-one .order
+      one-order = is-one .1 .order
 
       pub one-inside : e ≤ length s
-      one-inside = is-one .inside
+      one-inside = is-one .1 .inside
 
       pub one-kept : isCandidate (joined (take (e - a) (drop a s))) ≡ true
-      one-kept = is-one .kept
+      one-kept = is-one .1 .kept
 
       pub one-answer : (x : TxtAnswer) → x ≡ answerOf (chosen (joined (take (e - a) (drop a s)) ∷ []) (length d)) → x ≡ readTxt s l (length d)
       one-answer x g = g ∙ answer-by s l d (chosen (joined (take (e - a) (drop a s)) ∷ []) (length d)) one
@@ -156,4 +176,4 @@ module _ (s l d : List ℕ) (good : Bool) (gave : good ≡ isWireForm s l) where
       pub one-wrote : (out : List ℕ) → out ≡ outputOf (chosen (joined (take (e - a) (drop a s)) ∷ []) (length d)) d → out ≡ wroteTxt s l d
       one-wrote out g = g ∙ output-by s l d (chosen (joined (take (e - a) (drop a s)) ∷ []) (length d)) one
 
-pub ruleset read-laws = (broken-answer, broken-kept, none-answer, none-kept, several-answer, several-kept, one-order, one-inside, one-kept, one-answer, one-wrote, not-true, not-false, needs)
+pub ruleset read-laws = (odd-answer, odd-kept, broken-answer, broken-kept, none-answer, none-kept, several-answer, several-kept, one-order, one-inside, one-kept, one-answer, one-wrote, not-true, not-false, needs)

@@ -1,21 +1,23 @@
 -- The character strings of an RDATA: their laws, and the turns of the loops over them. Assumes nothing.
 use Prim.Native.Nat.{ℕ, zero, suc, _+_, _-_, _<_, _≤_}
-use mathlib.Core.Path.{_≡_, refl, ap}
-use mathlib.Core.Bool.{true, false, _&&_}
+use mathlib.Core.Path.{_≡_, refl, sym, ap, _∙_}
+use mathlib.Core.Bool.{Bool, true, false, _&&_, and-true, and-false}
 use mathlib.Core.List.{List, [], _∷_, _++_, flatten}
 use native.Mathlib.Omega.{arith}
-use lib.Dec.{leb}
+use lib.Dec.{eqb, leb}
 use lib.ListN.{length, getD, take, drop, length-append, length-drop, drop-of-length-le}
 use lib.Seq.{drop-drop, drop-nil, take-nil, length-take-le}
 use borrow.Author.Needs.{needs}
-use borrow.Author.Tests.{lt-ltb, le-ltb, le-leb, lt-leb, eq-eqb, ne-eqb}
+use borrow.Author.Tests.{lt-ltb, le-ltb, le-leb, lt-leb, eq-eqb, ne-eqb, eqb-true}
 use Rattle.lists.specs.Span.{begins}
 use Rattle.lists.specs.Text.{text}
-use Rattle.lists.proofs.Laws.{drop-next}
+use Rattle.lists.proofs.Bools.{and-left, and-right}
+use Rattle.lists.proofs.Laws.{drop-next, take-rest}
 use Rattle.numbers.specs.Pieces.{endOf}
 use Rattle.numbers.proofs.Pieces.{end-take, end-drop, end-after, end-within}
 use Rattle.txt.specs.Rdata.{stringsIn, strings, fitIn, stringsFit, isRdata, joined}
 use Rattle.txt.specs.Txt.{isCandidate}
+use Rattle.txt.proofs.General.{never}
 
 -- ---- the strings one by one: the bound on how many are read is large enough
 
@@ -180,3 +182,98 @@ module _ (s : List ℕ) (left i k : ℕ) (inv : isCandidate (joined s) ≡ begin
           cc (tag-next d, e)
 
 pub ruleset tag-laws = (tag-start, tag-end, tag-length, tag-differs, tag-next, tag-whole, needs)
+
+-- ---- `is_tagged`: the tag in one string
+
+-- a list that begins with p has its bytes
+tag-byte : (p t : List ℕ) (k : ℕ) → begins p t ≡ true → k < length p → getD t k 0 ≡ getD p k 0
+unfolding begins
+tag-byte [] t k h l = absurd (omega arith)
+tag-byte (x ∷ p) [] k h l = never cc
+tag-byte (x ∷ p) (y ∷ t) zero h l = eqb-true y x (and-left (eqb y x) (begins p t) h)
+tag-byte (x ∷ p) (y ∷ t) (suc k) h l = tag-byte p t k (and-right (eqb y x) (begins p t) h) (omega arith)
+
+begins-short : (p t : List ℕ) → length t < length p → begins p t ≡ false
+unfolding begins
+begins-short [] t h = absurd (omega arith)
+begins-short (x ∷ p) [] h = refl
+begins-short (x ∷ p) (y ∷ t) h = rw (begins-short p t (omega arith)) (and-false (eqb y x))
+
+unlike : (t : List ℕ) (k : ℕ) → k < 8 → (getD t k 0 ≡ getD tag k 0 → ⊥) → false ≡ isCandidate t
+unfolding isCandidate
+unlike t k l d = go (begins tag t) refl
+  where
+    go : (b : Bool) → begins tag t ≡ b → false ≡ b
+    go true q = absurd (d (tag-byte tag t k q l))
+    go false q = refl
+
+module _ (t : List ℕ) where
+  pub tagged-short : length t < 8 → false ≡ isCandidate t
+  unfolding isCandidate
+  tagged-short h = sym (begins-short tag t h)
+
+  pub tagged-0 : (getD t 0 0 ≡ 118 → ⊥) → false ≡ isCandidate t
+  tagged-0 d = unlike t 0 (omega arith) d
+
+  pub tagged-1 : (getD t 1 0 ≡ 61 → ⊥) → false ≡ isCandidate t
+  tagged-1 d = unlike t 1 (omega arith) d
+
+  pub tagged-2 : (getD t 2 0 ≡ 83 → ⊥) → false ≡ isCandidate t
+  tagged-2 d = unlike t 2 (omega arith) d
+
+  pub tagged-3 : (getD t 3 0 ≡ 84 → ⊥) → false ≡ isCandidate t
+  tagged-3 d = unlike t 3 (omega arith) d
+
+  pub tagged-4 : (getD t 4 0 ≡ 83 → ⊥) → false ≡ isCandidate t
+  tagged-4 d = unlike t 4 (omega arith) d
+
+  pub tagged-5 : (getD t 5 0 ≡ 118 → ⊥) → false ≡ isCandidate t
+  tagged-5 d = unlike t 5 (omega arith) d
+
+  pub tagged-6 : (getD t 6 0 ≡ 49 → ⊥) → false ≡ isCandidate t
+  tagged-6 d = unlike t 6 (omega arith) d
+
+-- the first seven bytes are those of the tag
+pub tagged-last : (t : List ℕ) → 8 ≤ length t → getD t 0 0 ≡ 118 → getD t 1 0 ≡ 61 → getD t 2 0 ≡ 83 → getD t 3 0 ≡ 84 → getD t 4 0 ≡ 83 → getD t 5 0 ≡ 118 → getD t 6 0 ≡ 49 → eqb (getD t 7 0) 59 ≡ isCandidate t
+unfolding isCandidate begins
+tagged-last [] h ea eb ec ed ee ef eg = absurd (omega arith)
+tagged-last (a ∷ []) h ea eb ec ed ee ef eg = absurd (omega arith)
+tagged-last (a ∷ b ∷ []) h ea eb ec ed ee ef eg = absurd (omega arith)
+tagged-last (a ∷ b ∷ c ∷ []) h ea eb ec ed ee ef eg = absurd (omega arith)
+tagged-last (a ∷ b ∷ c ∷ d ∷ []) h ea eb ec ed ee ef eg = absurd (omega arith)
+tagged-last (a ∷ b ∷ c ∷ d ∷ e ∷ []) h ea eb ec ed ee ef eg = absurd (omega arith)
+tagged-last (a ∷ b ∷ c ∷ d ∷ e ∷ f ∷ []) h ea eb ec ed ee ef eg = absurd (omega arith)
+tagged-last (a ∷ b ∷ c ∷ d ∷ e ∷ f ∷ g ∷ []) h ea eb ec ed ee ef eg = absurd (omega arith)
+tagged-last (a ∷ b ∷ c ∷ d ∷ e ∷ f ∷ g ∷ x ∷ t) h ea eb ec ed ee ef eg = rw (ea, eb, ec, ed, ee, ef, eg) (sym (and-true (eqb x 59)))
+
+pub ruleset tagged-laws = (tagged-short, tagged-0, tagged-1, tagged-2, tagged-3, tagged-4, tagged-5, tagged-6, tagged-last, needs)
+
+-- ---- `is_candidate`: where the first string has room for the tag, only that string counts
+
+begins-first : (p t : List ℕ) (n : ℕ) → length p ≤ n → begins p (take n t ++ joined (drop n t)) ≡ begins p t
+unfolding begins
+begins-first [] t n h = refl
+begins-first (x ∷ p) t zero h = absurd (omega arith)
+begins-first (x ∷ p) [] (suc n) h = rw joined-none
+begins-first (x ∷ p) (y ∷ t) (suc n) h = rw (begins-first p t n (omega arith))
+
+first-is : (n : ℕ) (s : List ℕ) → 8 ≤ n → isCandidate s ≡ isCandidate (take n s ++ joined (drop n s))
+unfolding isCandidate
+first-is n s l = sym (begins-first tag s n l)
+
+module _ (s : List ℕ) where
+  pub first-none : length s ≡ 0 → false ≡ isCandidate (joined s)
+  first-none h = go s h
+    where
+      go : (s : List ℕ) → length s ≡ 0 → false ≡ isCandidate (joined s)
+      go [] h = rw joined-none (tagged-short [] (omega arith))
+      go (x ∷ s) h = absurd (omega arith)
+
+  pub first-only : (length s ≡ 0 → ⊥) → 8 ≤ getD s 0 0 → (r : Bool) → r ≡ isCandidate (take (length s - 1) (drop 1 s)) → r ≡ isCandidate (joined s)
+  first-only z l r e = e ∙ (ap isCandidate (take-rest s 1) ∙ go s z l)
+    where
+      go : (s : List ℕ) → (length s ≡ 0 → ⊥) → 8 ≤ getD s 0 0 → isCandidate (drop 1 s) ≡ isCandidate (joined s)
+      go [] z l = absurd (z refl)
+      go (n ∷ s) z l = rw (joined-cons n s) (first-is n s l)
+
+pub ruleset first-laws = (first-none, first-only, needs)

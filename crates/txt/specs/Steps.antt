@@ -4,16 +4,21 @@ use mathlib.Core.Path.{_≡_}
 use mathlib.Core.Bool.{Bool, true, false, cond, _&&_}
 use mathlib.Core.List.{List, [], _∷_, map}
 use mathlib.Core.Option.{Option, none, some}
+use lib.Dec.{eqb}
 use lib.ListN.{length, take, drop}
-use Rattle.numbers.specs.Numbers.{numbers}
+use Rattle.lists.specs.Bytes.{all}
+use Rattle.numbers.specs.Numbers.{numbers, sum}
 use Rattle.numbers.specs.Pieces.{cut}
 use Rattle.txt.specs.declared.TxtAnswer.{TxtAnswer}
 use Rattle.txt.specs.declared.Found.{Found}
 use Rattle.txt.specs.declared.Found.the-variants.{Nothing, One, Several}
+use Rattle.txt.specs.declared.Found.the-variants as F
+use Rattle.txt.specs.declared.Kind.{Kind}
+use Rattle.txt.specs.declared.Kind.the-variants as K
 use Rattle.txt.specs.declared.Step.{Step}
 use Rattle.txt.specs.declared.Step.the-variants.{End, Field, Broken}
 use Rattle.txt.specs.Paper.{isId}
-use Rattle.txt.specs.Rdata.{joined}
+use Rattle.txt.specs.Rdata.{isRdata, joined}
 use Rattle.txt.specs.Grammar.{nameOf, afterName, valueOf, fieldsOf, oneMore}
 use Rattle.txt.specs.Txt.{isCandidate, candidates, refusal}
 
@@ -21,18 +26,43 @@ use Rattle.txt.specs.Txt.{isCandidate, candidates, refusal}
 unfoldable pub candidatesFrom : List ℕ → List ℕ → ℕ → ℕ → List (List ℕ)
 candidatesFrom rdatas lengths at k = candidates (map joined (cut (drop at rdatas) (drop k (numbers lengths))))
 
--- the one candidate is the text of the RDATA of s from a to e
-pub record OneIs (s : List ℕ) (cs : List (List ℕ)) (a e : ℕ) : Type 0 where
+-- the wire form of the RDATAs from place k on, which start at `at`: their lengths sum to the bytes that are left, and each is an RDATA
+unfoldable pub wireFrom : List ℕ → List ℕ → ℕ → ℕ → Bool
+wireFrom rdatas lengths at k = eqb (sum (drop k (numbers lengths))) (length rdatas - at) && all isRdata (cut (drop at rdatas) (drop k (numbers lengths)))
+
+-- what the RDATA s is
+unfoldable pub KindIs : List ℕ → Kind → Type 0
+KindIs s K.Broken = isRdata s ≡ false
+KindIs s K.Other = (isRdata s ≡ true) × (isCandidate (joined s) ≡ false)
+KindIs s K.Candidate = (isRdata s ≡ true) × (isCandidate (joined s) ≡ true)
+
+-- of the candidates cs the first is the text of the RDATA of s from a to e; `rest` are the others
+pub record OneIs (s : List ℕ) (cs rest : List (List ℕ)) (a e : ℕ) : Type 0 where
   pub order : a ≤ e
   pub inside : e ≤ length s
-  pub only : cs ≡ joined (take (e - a) (drop a s)) ∷ []
+  pub first : cs ≡ joined (take (e - a) (drop a s)) ∷ rest
   pub kept : isCandidate (joined (take (e - a) (drop a s))) ≡ true
 
--- what was found of the candidates cs
-unfoldable pub FoundIs : List ℕ → List (List ℕ) → Found → Type 0
-FoundIs s cs Nothing = cs ≡ []
-FoundIs s cs (One a e) = OneIs s cs a e
-FoundIs s cs Several = 2 ≤ length cs
+-- what was found of the candidates cs when `rest` are still to come
+unfoldable pub SeenIs : List ℕ → List (List ℕ) → List (List ℕ) → Found → Type 0
+SeenIs s cs rest F.Broken = ⊥
+SeenIs s cs rest Nothing = cs ≡ rest
+SeenIs s cs rest (One a e) = OneIs s cs rest a e
+SeenIs s cs rest Several = 2 ≤ length cs
+
+-- what was found, and one candidate more, from a to e
+abbrev pub withOne : Found → ℕ → ℕ → Found
+withOne F.Broken a e = F.Broken
+withOne Nothing a e = One a e
+withOne (One b f) a e = Several
+withOne Several a e = Several
+
+-- what was found of all RDATAs
+unfoldable pub FoundIs : List ℕ → List ℕ → Found → Type 0
+FoundIs s l F.Broken = wireFrom s l 0 0 ≡ false
+FoundIs s l Nothing = (wireFrom s l 0 0 ≡ true) × (SeenIs s (candidatesFrom s l 0 0) [] Nothing)
+FoundIs s l (One a e) = (wireFrom s l 0 0 ≡ true) × (SeenIs s (candidatesFrom s l 0 0) [] (One a e))
+FoundIs s l Several = (wireFrom s l 0 0 ≡ true) × (SeenIs s (candidatesFrom s l 0 0) [] Several)
 
 -- at `at` stand a delimiter and a field: its name from a, `=` at e, its value up to v
 pub record FieldIs (t : List ℕ) (at a e v : ℕ) : Type 0 where

@@ -3,19 +3,16 @@ ghost use mathlib.Core.Path.{_≡_};
 ghost use mathlib.Core.Bool.{true};
 ghost use mathlib.Core.List.{[], _∷_, _++_};
 ghost use Prim.Native.Nat.{_+_, _<_, _≤_};
-ghost use lib.Dec.{ltb};
 ghost use lib.ListN.{length, getD, drop};
-ghost use Rattle.lists.specs.Bytes.{all};
 ghost use Rattle.lists.specs.Equal.{sameBytes};
 ghost use Rattle.lists.specs.Span.{spanOf, begins};
 ghost use Rattle.lists.specs.Text.{text};
-ghost use Rattle.numbers.specs.Numbers.{numbers};
-ghost use Rattle.numbers.specs.Pieces.{cut, endOf};
+ghost use Rattle.numbers.specs.Pieces.{endOf};
 ghost use Rattle.txt.specs.Paper.{valueByte, isId};
-ghost use Rattle.txt.specs.Rdata.{isRdata, isWireForm, joined, texts};
+ghost use Rattle.txt.specs.Rdata.{isRdata, joined};
 ghost use Rattle.txt.specs.Grammar.{version, fieldsOf};
-ghost use Rattle.txt.specs.Txt.{isCandidate, candidates, chosen, refusal, grammar, answerOf, outputOf, readTxt, wroteTxt, idPart};
-ghost use Rattle.txt.specs.Steps.{FoundIs, StepIs, hasForm, idAnswer, candidatesFrom};
+ghost use Rattle.txt.specs.Txt.{isCandidate, chosen, refusal, grammar, answerOf, outputOf, readTxt, wroteTxt, idPart};
+ghost use Rattle.txt.specs.Steps.{KindIs, FoundIs, withOne, StepIs, hasForm, idAnswer};
 use fields::Field;
 
 // What the text of a candidate begins with.
@@ -58,38 +55,39 @@ fn is_rdata(s: &[u8]) -> bool
     true
 }
 
-// Whether no RDATA is empty, and no character string runs past its RDATA.
-fn are_rdatas(rdatas: &[u8], lengths: &[u8]) -> bool
-    ensures { λ r. ⌜ r ≡ all isRdata (cut (now (rdatas .entry)) (numbers (now (lengths .entry)))) ⌝ }
+// Whether t begins with the tag.
+fn is_tagged(t: &[u8]) -> bool
+    ensures { λ r. ⌜ r ≡ isCandidate (now (t .entry)) ⌝ }
 {
-    let n = numbers::count(lengths);
-    let mut at = 0;
-    let mut k = 0;
-    while k < n {
-        let e = numbers::end_at(lengths, k, at, rdatas.len());
-        let good = is_rdata(&rdatas[at..e]);
-        if !good {
-            return false;
-        }
-        at = e;
-        k += 1;
-    }
-    true
-}
-
-// Whether the wire form is right.
-fn is_wire_form(rdatas: &[u8], lengths: &[u8]) -> bool
-    ensures { λ r. ⌜ r ≡ isWireForm (now (rdatas .entry)) (now (lengths .entry)) ⌝ }
-{
-    let sums = numbers::sums_to(lengths, rdatas.len());
-    if !sums {
+    if t.len() < 8 {
         return false;
     }
-    are_rdatas(rdatas, lengths)
+    if t[0] != b'v' {
+        return false;
+    }
+    if t[1] != b'=' {
+        return false;
+    }
+    if t[2] != b'S' {
+        return false;
+    }
+    if t[3] != b'T' {
+        return false;
+    }
+    if t[4] != b'S' {
+        return false;
+    }
+    if t[5] != b'v' {
+        return false;
+    }
+    if t[6] != b'1' {
+        return false;
+    }
+    t[7] == b';'
 }
 
-// Whether the text of the RDATA s begins with the tag. The strings are not joined for it: the length bytes are skipped.
-fn is_candidate(s: &[u8]) -> bool
+// Whether the text of the RDATA s begins with the tag, which may go over several strings. They are not joined for it: the length bytes are skipped.
+fn is_candidate_in_parts(s: &[u8]) -> bool
     ensures { λ r. ⌜ r ≡ isCandidate (joined (now (s .entry))) ⌝ }
 {
     let mut left: u64 = 0;
@@ -114,54 +112,95 @@ fn is_candidate(s: &[u8]) -> bool
     false
 }
 
-// Whether there is a candidate among the RDATAs from place `first` on, which start at `from`.
-fn has_candidate(rdatas: &[u8], lengths: &[u8], from: usize, first: usize) -> bool
-    requires { ⌜ from ≤ length (now rdatas) ⌝ }
-    ensures { λ r. ⌜ r ≡ ltb 0 (length (candidatesFrom (now (rdatas .entry)) (now (lengths .entry)) from first)) ⌝ }
+// Whether the text of the RDATA s begins with the tag. Where the first string has room for it, no other is looked at.
+fn is_candidate(s: &[u8]) -> bool
+    ensures { λ r. ⌜ r ≡ isCandidate (joined (now (s .entry))) ⌝ }
 {
-    let n = numbers::count(lengths);
-    let mut at = from;
-    let mut k = first;
-    while k < n {
-        let e = numbers::end_at(lengths, k, at, rdatas.len());
-        let hit = is_candidate(&rdatas[at..e]);
-        if hit {
-            return true;
-        }
-        at = e;
-        k += 1;
+    if s.len() == 0 {
+        return false;
     }
-    false
+    if s[0] < 8 {
+        return is_candidate_in_parts(s);
+    }
+    is_tagged(&s[1..])
 }
 
-// The candidates: none, the one RDATA from a place to a place, or several.
+// What an RDATA is: of no right wire form, a record to drop, or a candidate.
+enum Kind {
+    Broken,
+    Other,
+    Candidate,
+}
+
+// What the RDATA s is.
+fn kind_of(s: &[u8]) -> Kind
+    ensures { λ r. ⌜ KindIs (now (s .entry)) r ⌝ }
+{
+    let good = is_rdata(s);
+    if !good {
+        return Kind::Broken;
+    }
+    let hit = is_candidate(s);
+    if !hit {
+        return Kind::Other;
+    }
+    Kind::Candidate
+}
+
+// What the RDATAs hold: a broken wire form, no candidate, one, from a place to a place, or several.
 enum Found {
+    Broken,
     Nothing,
     One(usize, usize),
     Several,
 }
 
-// The first candidate, if no other follows it.
+// What was found, and one candidate more, from a to e.
+fn one_more(found: Found, a: usize, e: usize) -> Found
+    ensures { λ r. ⌜ r ≡ withOne found a e ⌝ }
+{
+    match found {
+        Found::Broken => Found::Broken,
+        Found::Nothing => Found::One(a, e),
+        Found::One(_, _) => Found::Several,
+        Found::Several => Found::Several,
+    }
+}
+
+// Looks at the RDATAs once: for their wire form and for the candidates among them. The list of lengths has no left-over bytes.
 fn find_candidate(rdatas: &[u8], lengths: &[u8]) -> Found
-    ensures { λ r. ⌜ FoundIs (now (rdatas .entry)) (candidates (texts (now (rdatas .entry)) (now (lengths .entry)))) r ⌝ }
+    ensures { λ r. ⌜ FoundIs (now (rdatas .entry)) (now (lengths .entry)) r ⌝ }
 {
     let n = numbers::count(lengths);
+    let mut found = Found::Nothing;
     let mut at = 0;
     let mut k = 0;
     while k < n {
-        let e = numbers::end_at(lengths, k, at, rdatas.len());
-        let hit = is_candidate(&rdatas[at..e]);
-        if hit {
-            let more = has_candidate(rdatas, lengths, e, k + 1);
-            if more {
-                return Found::Several;
-            }
-            return Found::One(at, e);
+        let v = numbers::number(lengths, k) as usize;
+        if rdatas.len() - at < v {
+            return Found::Broken;
         }
-        at = e;
-        k += 1;
+        let e = at + v;
+        let kind = kind_of(&rdatas[at..e]);
+        match kind {
+            Kind::Broken => {
+                return Found::Broken;
+            }
+            Kind::Other => {
+                at = e;
+                k += 1;
+            }
+            Kind::Candidate => {
+                found = one_more(found, at, e);
+                at = e;
+                k += 1;
+            }
+        }
     }
-    Found::Nothing
+    if at < rdatas.len() {
+        return Found::Broken;
+    }
+    found
 }
 
 // Where the character string ends whose length byte stands at i, no further than the RDATA s goes.
@@ -391,12 +430,15 @@ pub fn read_txt(rdatas: &[u8], lengths: &[u8], output: &mut [u8]) -> TxtAnswer
     ensures { λ r. ⌜ r ≡ readTxt (now (rdatas .entry)) (now (lengths .entry)) (length (now (output .entry))) ⌝ }
     ensures { λ _. ⌜ now (output .exit) ≡ wroteTxt (now (rdatas .entry)) (now (lengths .entry)) (now (output .entry)) ⌝ }
 {
-    let good = is_wire_form(rdatas, lengths);
-    if !good {
+    let whole = numbers::is_whole(lengths);
+    if !whole {
         return refused(43);
     }
     let found = find_candidate(rdatas, lengths);
     match found {
+        Found::Broken => {
+            return refused(43);
+        }
         Found::Nothing => {
             return refused(40);
         }

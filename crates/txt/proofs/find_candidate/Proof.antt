@@ -2,18 +2,16 @@
 use Prim.Native.Nat.{_≤_, _-_}
 use mathlib.Core.Path.{_≡_}
 use lib.ListN.{length}
-use Rattle.txt.specs.Rdata.{texts}
-use Rattle.txt.specs.Txt.{candidates}
-use Rattle.txt.specs.Steps.{candidatesFrom}
+use Rattle.txt.specs.Steps.{SeenIs, wireFrom, candidatesFrom}
 use Rattle.txt.proofs.Candidates.{found-laws}
 use Rattle.txt.proofs.find_candidate.Statement.{statement}
 use Rattle.txt.proofs.find_candidate.Tie as tie
 
 abbrev Inv-loop : tie.InvT-loop
-Inv-loop rdatas lengths n at₀ k₀ at k = (at ≤ length rdatas) × (candidates (texts rdatas lengths) ≡ candidatesFrom rdatas lengths at k)
+Inv-loop rdatas lengths n found₀ at₀ k₀ found at k = (at ≤ length rdatas) × (wireFrom rdatas lengths 0 0 ≡ wireFrom rdatas lengths at k) × (SeenIs rdatas (candidatesFrom rdatas lengths 0 0) (candidatesFrom rdatas lengths at k) found)
 
 abbrev μ-loop : tie.MeasureT-loop
-μ-loop rdatas lengths n at₀ k₀ at k = n - k
+μ-loop rdatas lengths n found₀ at₀ k₀ found at k = n - k
 
 count-requires : tie.Need-count-requires Inv-loop μ-loop
 count-requires c κs = search found-laws
@@ -21,32 +19,38 @@ count-requires c κs = search found-laws
 loop-holds : tie.Need-loop-holds Inv-loop μ-loop
 loop-holds c = search found-laws
 
-end-at-requires : tie.Need-end-at-requires Inv-loop μ-loop
-end-at-requires c κs = search found-laws
+number-requires : tie.Need-number-requires Inv-loop μ-loop
+number-requires c κs = search found-laws
 
-sub-is-candidate : tie.Need-sub-is-candidate Inv-loop μ-loop
-sub-is-candidate c = search found-laws
-
-part-is-candidate-start : tie.Need-part-is-candidate-start Inv-loop μ-loop
-part-is-candidate-start c = search found-laws
-
-part-is-candidate-end : tie.Need-part-is-candidate-end Inv-loop μ-loop
-part-is-candidate-end c = search found-laws
-
-is-candidate-requires : tie.Need-is-candidate-requires Inv-loop μ-loop
-is-candidate-requires c κs = search found-laws
-
-add-has-candidate : tie.Need-add-has-candidate Inv-loop μ-loop
-add-has-candidate c = search found-laws
-
-has-candidate-requires : tie.Need-has-candidate-requires Inv-loop μ-loop
-has-candidate-requires c κs = search found-laws
+sub-if1 : tie.Need-sub-if1 Inv-loop μ-loop
+sub-if1 c = search found-laws
 
 returns : tie.Need-returns Inv-loop μ-loop
 returns c = search found-laws
 
+add-e : tie.Need-add-e Inv-loop μ-loop
+add-e c = search found-laws
+
+sub-kind-of : tie.Need-sub-kind-of Inv-loop μ-loop
+sub-kind-of c = search found-laws
+
+part-kind-of-start : tie.Need-part-kind-of-start Inv-loop μ-loop
+part-kind-of-start c = search found-laws
+
+part-kind-of-end : tie.Need-part-kind-of-end Inv-loop μ-loop
+part-kind-of-end c = search found-laws
+
+kind-of-requires : tie.Need-kind-of-requires Inv-loop μ-loop
+kind-of-requires c κs = search found-laws
+
+enum-told : tie.Need-enum-told Inv-loop μ-loop
+enum-told c = search found-laws
+
 returns-2 : tie.Need-returns-2 Inv-loop μ-loop
 returns-2 c = search found-laws
+
+enum-told-2 : tie.Need-enum-told-2 Inv-loop μ-loop
+enum-told-2 c = search found-laws
 
 add-k : tie.Need-add-k Inv-loop μ-loop
 add-k c = search found-laws
@@ -57,8 +61,26 @@ loop-less c = search found-laws
 loop-again : tie.Need-loop-again Inv-loop μ-loop
 loop-again c = search found-laws
 
+enum-told-3 : tie.Need-enum-told-3 Inv-loop μ-loop
+enum-told-3 c = search found-laws
+
+one-more-requires : tie.Need-one-more-requires Inv-loop μ-loop
+one-more-requires c κs = search found-laws
+
+add-k-2 : tie.Need-add-k-2 Inv-loop μ-loop
+add-k-2 c = search found-laws
+
+loop-less-2 : tie.Need-loop-less-2 Inv-loop μ-loop
+loop-less-2 c = search found-laws
+
+loop-again-2 : tie.Need-loop-again-2 Inv-loop μ-loop
+loop-again-2 c = search found-laws
+
 returns-3 : tie.Need-returns-3 Inv-loop μ-loop
 returns-3 c = search found-laws
+
+returns-4 : tie.Need-returns-4 Inv-loop μ-loop
+returns-4 c = search found-laws
 
 pub find-candidate-spec : {M : Type 1} → statement M
 find-candidate-spec =
@@ -68,16 +90,24 @@ find-candidate-spec =
     μ-loop
     count-requires
     loop-holds
-    end-at-requires
-    sub-is-candidate
-    part-is-candidate-start
-    part-is-candidate-end
-    is-candidate-requires
-    add-has-candidate
-    has-candidate-requires
+    number-requires
+    sub-if1
     returns
+    add-e
+    sub-kind-of
+    part-kind-of-start
+    part-kind-of-end
+    kind-of-requires
+    enum-told
     returns-2
+    enum-told-2
     add-k
     loop-less
     loop-again
-    returns-3)
+    enum-told-3
+    one-more-requires
+    add-k-2
+    loop-less-2
+    loop-again-2
+    returns-3
+    returns-4)

@@ -3,8 +3,8 @@ use Rattle.txt.proofs.Reading.{read-laws}
 use Rattle.txt.proofs.read_txt.Statement.{statement}
 use Rattle.txt.proofs.read_txt.Tie as tie
 
-is-wire-form-requires : tie.Need-is-wire-form-requires
-is-wire-form-requires c κs = search read-laws
+is-whole-requires : tie.Need-is-whole-requires
+is-whole-requires c κs = search read-laws
 
 refused-requires : tie.Need-refused-requires
 refused-requires c κs = search read-laws
@@ -33,6 +33,15 @@ refused-requires-3 c κs = search read-laws
 returns-3 : tie.Need-returns-3
 returns-3 c = search read-laws
 
+enum-told-3 : tie.Need-enum-told-3
+enum-told-3 c = search read-laws
+
+refused-requires-4 : tie.Need-refused-requires-4
+refused-requires-4 c κs = search read-laws
+
+returns-4 : tie.Need-returns-4
+returns-4 c = search read-laws
+
 enum-known-found : tie.Need-enum-known-found
 enum-known-found c = search read-laws
 
@@ -51,14 +60,14 @@ write-one-requires c κs = search read-laws
 same-length : tie.Need-same-length
 same-length c = search read-laws
 
-returns-4 : tie.Need-returns-4
-returns-4 c = search read-laws
+returns-5 : tie.Need-returns-5
+returns-5 c = search read-laws
 
 pub read-txt-spec : {M : Type 1} → statement M
 read-txt-spec =
     tie.close
     (tie.spec
-    is-wire-form-requires
+    is-whole-requires
     refused-requires
     returns
     find-candidate-requires
@@ -68,10 +77,13 @@ read-txt-spec =
     enum-told-2
     refused-requires-3
     returns-3
+    enum-told-3
+    refused-requires-4
+    returns-4
     enum-known-found
     sub-write-one
     part-write-one-start
     part-write-one-end
     write-one-requires
     same-length
-    returns-4)
+    returns-5)
