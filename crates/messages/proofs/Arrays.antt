@@ -1,40 +1,72 @@
--- Loops over the first `count` numbers of an array of 32. Assumes nothing.
-use Prim.Native.Nat.{ℕ, _+_, _<_, _≤_}
-use mathlib.Core.Path.{_≡_, sym, _∙_}
-use mathlib.Core.Bool.{Bool, true, false}
-use mathlib.Core.List.{List}
+-- `read_hosts`: the numbers of the two lists, at the front of arrays of 32. Assumes nothing.
+use Prim.Native.Nat.{ℕ, zero, suc, _+_, _<_, _≤_}
+use mathlib.Core.Path.{_≡_, sym, ap, _∙_}
+use mathlib.Core.Bool.{Bool, false, and-false}
+use mathlib.Core.List.{List, [], _∷_}
 use native.Mathlib.Numerals.{add-one}
 use native.Mathlib.Omega.{arith}
-use lib.ListN.{length, getD, take, drop, set}
-use lib.Seq.{length-take-le, getD-take, take-suc, take-suc-set, take-length}
+use lib.Dec.{leb}
+use lib.ListN.{length, getD, take, set}
+use lib.Seq.{take-suc, take-suc-set, take-length}
 use borrow.Author.Needs.{needs}
-use borrow.Author.Tests.{not-true, not-false}
+use borrow.Author.Tests.{le-leb, lt-leb, ne-eqb}
 use Rattle.lists.specs.Bytes.{all}
-use Rattle.numbers.proofs.Numbers.{each-next, each-fail, each-end}
+use Rattle.messages.specs.declared.MessageAnswer.{MessageAnswer}
+use Rattle.messages.specs.Hosts.{isPreference, isNextHost, isHostVerdict, isHostList, noHost, messageAnswer, hostsAnswer}
 
--- a loop that tests each of them: r is what the test p gave of the number at place k
-module _ (p : ℕ → Bool) (a : List ℕ) (count k : ℕ) (inv : all p (take count a) ≡ all p (drop k (take count a))) (full : length a ≡ 32) (fits : count ≤ 32) where
-  counted : count ≡ length (take count a)
-  counted = sym (length-take-le count a (omega arith))
+-- one number that fails a test
+pub all-fails : (p : ℕ → Bool) (ns : List ℕ) (k : ℕ) → k < length ns → p (getD ns k 0) ≡ false → all p ns ≡ false
+unfolding all
+all-fails p [] k h f = absurd (omega arith)
+all-fails p (x ∷ ns) zero h f = rw f
+all-fails p (x ∷ ns) (suc k) h f = rw (all-fails p ns k (omega arith) f) (and-false (p x))
 
-  pub front-end : count ≤ k → true ≡ all p (take count a)
-  front-end h = each-end p (take count a) k count inv counted h
+-- what is no list of hosts is refused
+refused-list : (ps vs : List ℕ) → isHostList ps vs ≡ false → messageAnswer ps vs ≡ noHost 63
+unfolding messageAnswer
+refused-list ps vs f = rw f
 
-  module _ (h : k < count) (r : Bool) (gave : r ≡ p (getD a k 0)) where
-    pub front-next : r ≡ true → all p (take count a) ≡ all p (drop (k + 1) (take count a))
-    front-next t = each-next p (take count a) k count inv counted h (getD a k 0) (sym (getD-take count a k 0 h)) r gave t
+bad-preference : (ps vs : List ℕ) → all isPreference ps ≡ false → isHostList ps vs ≡ false
+unfolding isHostList
+bad-preference ps vs f = simp (f, and-false)
 
-    pub front-fail : r ≡ false → false ≡ all p (take count a)
-    front-fail t = each-fail p (take count a) k count inv counted h (getD a k 0) (sym (getD-take count a k 0 h)) r gave t
+bad-verdict : (ps vs : List ℕ) → all isHostVerdict vs ≡ false → isHostList ps vs ≡ false
+unfolding isHostList
+bad-verdict ps vs f = simp (f, and-false)
 
-pub ruleset front-laws = (front-next, front-fail, front-end, not-true, not-false, needs)
+pub no-preference : (ps vs : List ℕ) → all isPreference ps ≡ false → messageAnswer ps vs ≡ noHost 63
+no-preference ps vs f = refused-list ps vs (bad-preference ps vs f)
 
--- `numbers_of`: the first k numbers of ns stand at the front of a; v is what `number` gave
-module _ (ns a : List ℕ) (k n : ℕ) (inv : take k a ≡ take k ns) (counted : n ≡ length ns) where
-  pub filled-next : (v : ℕ) → v ≡ getD ns k 0 → k < n → length a ≡ 32 → length ns ≤ 32 → take (k + 1) (set a k v) ≡ take (k + 1) ns
-  filled-next v given h full fits = let w : k < length a = omega arith in rw (add-one k, take-suc-set a k v w, inv, given, take-suc ns k 0 (omega arith))
+pub no-verdict : (ps vs : List ℕ) → all isHostVerdict vs ≡ false → messageAnswer ps vs ≡ noHost 63
+no-verdict ps vs f = refused-list ps vs (bad-verdict ps vs f)
 
-  pub filled-end : n ≤ k → k ≤ n → take (length ns) a ≡ ns
-  filled-end h w = let e : k ≡ length ns = omega arith in rw e at inv ∙ take-length ns
+-- at place k of the lists ps and vs, which have `count` numbers each; r is the answer
+module _ (ps vs : List ℕ) (k count : ℕ) (counted : count ≡ length ps) (counted₂ : count ≡ length vs) (r : MessageAnswer) where
+  module _ (h : k < count) (refused : r ≡ noHost 63) (n : ℕ) where
+    high : n ≡ getD ps k 0 → 65535 < n → isPreference (getD ps k 0) ≡ false
+    unfolding isPreference
+    high e o = lt-leb (getD ps k 0) 65535 (omega arith)
 
-pub ruleset filled-laws = (filled-next, filled-end, needs)
+    pub read-preference : n ≡ getD ps k 0 → 65535 < n → r ≡ messageAnswer ps vs
+    read-preference e o = refused ∙ sym (no-preference ps vs (all-fails isPreference ps k (omega arith) (high e o)))
+
+    other : n ≡ getD vs k 0 → 255 < n → isHostVerdict (getD vs k 0) ≡ false
+    unfolding isHostVerdict isNextHost
+    other e o = rw (ne-eqb (getD vs k 0) 9 (λ q. omega arith), lt-leb (getD vs k 0) 5 (omega arith), lt-leb (getD vs k 0) 27 (omega arith), and-false (leb 1 (getD vs k 0))) (and-false (leb 20 (getD vs k 0)))
+
+    pub read-verdict : n ≡ getD vs k 0 → 255 < n → r ≡ messageAnswer ps vs
+    read-verdict e o = refused ∙ sym (no-verdict ps vs (all-fails isHostVerdict vs k (omega arith) (other e o)))
+
+  pub read-end : count ≤ k → k ≤ count → count ≤ 32 → (a b : List ℕ) → take k a ≡ take k ps → take k b ≡ take k vs → r ≡ hostsAnswer count a b → r ≡ messageAnswer ps vs
+  unfolding hostsAnswer
+  read-end h w fits a b p q e =
+      let i : k ≡ count = omega arith in
+      let f : take count a ≡ ps = rw i at p ∙ (ap (λ (n : ℕ). take n ps) counted ∙ take-length ps) in
+      let g : take count b ≡ vs = rw i at q ∙ (ap (λ (n : ℕ). take n vs) counted₂ ∙ take-length vs) in
+      e ∙ rw (le-leb count 32 fits, f, g)
+
+-- the first k numbers of ns stand at the front of a; v is what `number` gave
+pub filled-next : (ns a : List ℕ) (k n : ℕ) → take k a ≡ take k ns → n ≡ length ns → (v : ℕ) → v ≡ getD ns k 0 → k < n → length a ≡ 32 → n ≤ 32 → take (k + 1) (set a k v) ≡ take (k + 1) ns
+filled-next ns a k n inv counted v given h full fits = let w : k < length a = omega arith in rw (add-one k, take-suc-set a k v w, inv, given, take-suc ns k 0 (omega arith))
+
+pub ruleset read-laws = (read-preference, read-verdict, read-end, filled-next, needs)

@@ -6,17 +6,20 @@ use mathlib.Core.Bool.{Bool, true, false, cond}
 use mathlib.Core.List.{List, [], _∷_}
 use native.Mathlib.Omega.{arith}
 use lib.Dec.{leb}
-use lib.ListN.{length, getD, take, drop}
+use lib.ListN.{length, getD, take, drop, drop-of-length-le}
 use lib.Seq.{length-take-le, getD-take}
 use borrow.Author.Needs.{needs}
-use borrow.Author.Tests.{le-leb, leb-true}
+use borrow.Author.Tests.{not-true, not-false, le-leb, leb-true, eq-eqb}
 use Rattle.lists.specs.Bytes.{all}
+use Rattle.messages.specs.declared.MessageAnswer.{MessageAnswer}
 use Rattle.messages.specs.declared.Decider.{Decider}
 use Rattle.messages.specs.declared.Decider.the-variants.{Nobody}
-use Rattle.messages.specs.Hosts.{Host, isNextHost, hostsFrom, hostsOf, insert, inOrder, answerOf, decided}
+use Rattle.messages.specs.Hosts.{Host, isPreference, isNextHost, isHostVerdict, isHostList, hostsFrom, hostsOf, insert, inOrder, noHost, answerOf, decided, messageAnswer}
 use Rattle.messages.specs.Order.{comesBefore, isOrdered}
 use Rattle.messages.specs.Search.{decider, before, withHost, deciderOf, decidedBy}
 use Rattle.lists.proofs.Bools.{and-left, and-right, and-intro, all-more}
+use Rattle.lists.proofs.Laws.{drop-next}
+use Rattle.messages.proofs.Arrays.{all-fails, no-verdict}
 use Rattle.messages.proofs.Order.{before-facts, hosts-ordered, hosts-next, hosts-end}
 
 -- the first host of a list that is not a "next host"
@@ -85,22 +88,67 @@ first-is k (p ∷ ps) (v ∷ vs) =
 pub decider-answers : (ps vs : List ℕ) → decided (inOrder (hostsOf ps vs)) ≡ decidedBy (deciderOf (hostsOf ps vs))
 decider-answers ps vs = first-answers (inOrder (hostsOf ps vs)) ∙ ap decidedBy (first-is 0 ps vs)
 
--- `find_decider`: a turn of its loop at place k - 1, and its two ends; d is the host that decides among those from k on, r what `with_host` gave
-module _ (ps vs : List ℕ) (count : ℕ) where
-  pub find-start : length ps ≡ 32 → count ≤ 32 → Nobody ≡ deciderOf (hostsFrom count (drop count (take count ps)) (drop count (take count vs)))
+-- `walk_hosts`: the loop stands at place k, and looks at place k - 1; d is the host that decides among those from k on, r an answer
+module _ (ps vs : List ℕ) (count : ℕ) (full : length ps ≡ 32) (full₂ : length vs ≡ 32) (fits : count ≤ 32) where
+  length-ps : length (take count ps) ≡ count
+  length-ps = length-take-le count ps (omega arith)
+
+  length-vs : length (take count vs) ≡ count
+  length-vs = length-take-le count vs (omega arith)
+
+  pub walk-start : Nobody ≡ deciderOf (hostsFrom count (drop count (take count ps)) (drop count (take count vs)))
   unfolding deciderOf
-  find-start full fits = let g : length (take count ps) ≤ count = omega (arith, length-take-le count ps (omega arith)) in rw (hosts-end (take count ps) (take count vs) count g)
+  walk-start = let g : length (take count ps) ≤ count = omega (arith, length-ps) in rw (hosts-end (take count ps) (take count vs) count g)
 
-  module _ (k : ℕ) (d : Decider) (inv : d ≡ deciderOf (hostsFrom k (drop k (take count ps)) (drop k (take count vs)))) where
-    pub find-next : length ps ≡ 32 → length vs ≡ 32 → count ≤ 32 → 0 < k → k ≤ count → (r : Decider) → r ≡ withHost (record { preference = getD ps (k - 1) 0; verdict = getD vs (k - 1) 0; position = k - 1 }) d → r ≡ deciderOf (hostsFrom (k - 1) (drop (k - 1) (take count ps)) (drop (k - 1) (take count vs)))
-    unfolding deciderOf
-    find-next full full₂ fits pos le r gave =
-        let j : k - 1 < length (take count ps) = omega (arith, length-take-le count ps (omega arith)) in
-        let i : k - 1 < length (take count vs) = omega (arith, length-take-le count vs (omega arith)) in
+  pub preferences-start : all isPreference (drop count (take count ps)) ≡ true
+  unfolding all
+  preferences-start = let g : length (take count ps) ≤ count = omega (arith, length-ps) in rw (drop-of-length-le (take count ps) g)
+
+  pub verdicts-start : all isHostVerdict (drop count (take count vs)) ≡ true
+  unfolding all
+  verdicts-start = let g : length (take count vs) ≤ count = omega (arith, length-vs) in rw (drop-of-length-le (take count vs) g)
+
+  module _ (k : ℕ) (pos : 0 < k) (le : k ≤ count) where
+    module _ (v : ℕ) (read : v ≡ getD vs (k - 1) 0) (t : Bool) (told : t ≡ isHostVerdict v) where
+      verdict-here : isHostVerdict (getD (take count vs) (k - 1) 0) ≡ t
+      verdict-here = let q : getD (take count vs) (k - 1) 0 ≡ v = getD-take count vs (k - 1) 0 (omega arith) ∙ sym read in rw q (sym told)
+
+      pub walk-bad : t ≡ false → (r : MessageAnswer) → r ≡ noHost 63 → r ≡ messageAnswer (take count ps) (take count vs)
+      walk-bad f r e = e ∙ sym (no-verdict (take count ps) (take count vs) (all-fails isHostVerdict (take count vs) (k - 1) (omega (arith, length-vs)) (verdict-here ∙ f)))
+
+      pub verdicts-next : t ≡ true → all isHostVerdict (drop k (take count vs)) ≡ true → all isHostVerdict (drop (k - 1) (take count vs)) ≡ true
+      unfolding all
+      verdicts-next y inv =
+          let i : k - 1 < length (take count vs) = omega (arith, length-vs) in
+          let e : k - 1 + 1 ≡ k = omega arith in
+          rw (drop-next (take count vs) (k - 1) i, e, verdict-here, y) inv
+
+    pub preferences-next : (p : ℕ) → p ≡ getD ps (k - 1) 0 → p < 65536 → all isPreference (drop k (take count ps)) ≡ true → all isPreference (drop (k - 1) (take count ps)) ≡ true
+    unfolding all isPreference
+    preferences-next p read small inv =
+        let i : k - 1 < length (take count ps) = omega (arith, length-ps) in
         let e : k - 1 + 1 ≡ k = omega arith in
-        rw (hosts-next (take count ps) (take count vs) (k - 1) j i, e, getD-take count ps (k - 1) 0 (omega arith), getD-take count vs (k - 1) 0 (omega arith), sym inv) gave
+        let q : getD (take count ps) (k - 1) 0 ≡ p = getD-take count ps (k - 1) 0 (omega arith) ∙ sym read in
+        rw (drop-next (take count ps) (k - 1) i, e, q, le-leb p 65535 (omega arith)) inv
 
-    pub find-end : k ≤ 0 → d ≡ deciderOf (hostsOf (take count ps) (take count vs))
-    find-end h = let e : k ≡ 0 = omega arith in rw e at inv
+    pub walk-next : (d : Decider) → d ≡ deciderOf (hostsFrom k (drop k (take count ps)) (drop k (take count vs))) → (p v : ℕ) → p ≡ getD ps (k - 1) 0 → v ≡ getD vs (k - 1) 0 → (r : Decider) → r ≡ withHost (record { preference = p; verdict = v; position = k - 1 }) d → r ≡ deciderOf (hostsFrom (k - 1) (drop (k - 1) (take count ps)) (drop (k - 1) (take count vs)))
+    unfolding deciderOf
+    walk-next d inv p v rp rv r gave =
+        let j : k - 1 < length (take count ps) = omega (arith, length-ps) in
+        let i : k - 1 < length (take count vs) = omega (arith, length-vs) in
+        let e : k - 1 + 1 ≡ k = omega arith in
+        rw (hosts-next (take count ps) (take count vs) (k - 1) j i, e, getD-take count ps (k - 1) 0 (omega arith), getD-take count vs (k - 1) 0 (omega arith), sym inv, sym rp, sym rv) gave
 
-pub ruleset find-laws = (find-start, find-next, find-end, needs)
+  list-good : 0 < count → all isPreference (take count ps) ≡ true → all isHostVerdict (take count vs) ≡ true → isHostList (take count ps) (take count vs) ≡ true
+  unfolding isHostList
+  list-good pos p v = rw (length-ps, length-vs, le-leb 1 count pos, le-leb count 32 fits, eq-eqb count count refl, p, v)
+
+  pub walk-end : 0 < count → (k : ℕ) → k ≤ 0 → all isPreference (drop k (take count ps)) ≡ true → all isHostVerdict (drop k (take count vs)) ≡ true → (d : Decider) → d ≡ deciderOf (hostsFrom k (drop k (take count ps)) (drop k (take count vs))) → (r : MessageAnswer) → r ≡ decidedBy d → r ≡ messageAnswer (take count ps) (take count vs)
+  unfolding messageAnswer
+  walk-end pos k z p v d inv r e =
+      let i : k ≡ 0 = omega arith in
+      let g : isHostList (take count ps) (take count vs) ≡ true = list-good pos (rw i at p) (rw i at v) in
+      let f : d ≡ deciderOf (hostsOf (take count ps) (take count vs)) = rw i at inv in
+      rw g (e ∙ (ap decidedBy f ∙ sym (decider-answers (take count ps) (take count vs))))
+
+pub ruleset walk-laws = (walk-start, preferences-start, verdicts-start, walk-bad, verdicts-next, preferences-next, walk-next, walk-end, not-true, not-false, needs)

@@ -40,24 +40,6 @@ module _ (v : ℕ) where
 
 pub ruleset verdict-laws = (verdict-nine, verdict-zero, verdict-final, verdict-next, needs)
 
--- `is_host_list`: r is what `are_preferences` gave, s what `are_verdicts` gave
-module _ (ps vs : List ℕ) (count : ℕ) (full : length ps ≡ 32) (full₂ : length vs ≡ 32) (fits : count ≤ 32) where
-  list-is : isHostList (take count ps) (take count vs) ≡ (within 1 32 count && eqb count count && all isPreference (take count ps) && all isHostVerdict (take count vs))
-  unfolding isHostList
-  list-is = rw (length-take-le count ps (omega arith), length-take-le count vs (omega arith))
-
-  pub list-empty : count ≡ 0 → false ≡ isHostList (take count ps) (take count vs)
-  list-empty h = rw (list-is, h)
-
-  module _ (h : count ≡ 0 → ⊥) (r : Bool) (gave : r ≡ all isPreference (take count ps)) where
-    pub list-preference : r ≡ false → false ≡ isHostList (take count ps) (take count vs)
-    list-preference f = rw (list-is, le-leb 1 count (omega arith), le-leb count 32 fits, eq-eqb count count refl, sym gave, f)
-
-    pub list-verdicts : r ≡ true → (s : Bool) → s ≡ all isHostVerdict (take count vs) → s ≡ isHostList (take count ps) (take count vs)
-    list-verdicts t s e = rw (list-is, le-leb 1 count (omega arith), le-leb count 32 fits, eq-eqb count count refl, sym gave, t) e
-
-pub ruleset list-laws = (list-empty, list-preference, list-verdicts, not-true, not-false, needs)
-
 -- `with_host`: r is what `is_next_host` gave of the host's verdict
 module _ (p v k : ℕ) (d : Decider) (r : Bool) (gave : r ≡ isNextHost v) where
   pub with-next : r ≡ true → d ≡ withHost (record { preference = p; verdict = v; position = k }) d
@@ -96,22 +78,21 @@ module _ (d : Decider) where
 
 pub ruleset decided-laws = (decided-none, decided-nine, decided-final, needs)
 
--- `first_host`: r is its answer, t what `is_host_list` gave, d what `find_decider` gave
+-- `first_host`: r is its answer
 module _ (ps vs : List ℕ) (count : ℕ) (r : MessageAnswer) where
   pub first-over : 32 < count → r ≡ noHost 63 → r ≡ hostsAnswer count ps vs
   unfolding hostsAnswer
   first-over h e = rw (lt-leb count 32 h) e
 
-  module _ (h : count ≤ 32) (t : Bool) (gave : t ≡ isHostList (take count ps) (take count vs)) where
-    pub first-refused : t ≡ false → r ≡ noHost 63 → r ≡ hostsAnswer count ps vs
-    unfolding hostsAnswer messageAnswer
-    first-refused f e = rw (le-leb count 32 h, sym gave, f) e
+  pub first-empty : count ≡ 0 → r ≡ noHost 63 → r ≡ hostsAnswer count ps vs
+  unfolding hostsAnswer messageAnswer isHostList
+  first-empty z e = rw z e
 
-    pub first-found : t ≡ true → (d : Decider) → d ≡ deciderOf (hostsOf (take count ps) (take count vs)) → r ≡ decidedBy d → r ≡ hostsAnswer count ps vs
-    unfolding hostsAnswer messageAnswer
-    first-found f d g e = rw (le-leb count 32 h, sym gave, f) (e ∙ ap decidedBy g ∙ sym (decider-answers (take count ps) (take count vs)))
+  pub first-walk : count ≤ 32 → r ≡ messageAnswer (take count ps) (take count vs) → r ≡ hostsAnswer count ps vs
+  unfolding hostsAnswer
+  first-walk h e = rw (le-leb count 32 h) e
 
-pub ruleset first-laws = (first-over, first-refused, first-found, not-true, not-false, needs)
+pub ruleset first-laws = (first-over, first-empty, first-walk, needs)
 
 -- lists that are too long, or of unequal length, are no list of hosts
 long-list : (ps vs : List ℕ) → 32 < length ps → isHostList ps vs ≡ false
@@ -143,14 +124,14 @@ module _ (ps vs : List ℕ) (r : MessageAnswer) (w : Bool) (whole : w ≡ isWhol
         unfolding listsAnswer messageAnswer
         lists-uneven d e = rw (sym whole, t, sym whole₂, u, uneven-list (numbers ps) (numbers vs) (λ q. d (omega arith))) e
 
-        pub lists-hosts : n ≤ 32 → m ≡ n → (p v : List ℕ) → take (length (numbers ps)) p ≡ numbers ps → take (length (numbers vs)) v ≡ numbers vs → r ≡ hostsAnswer n p v → r ≡ listsAnswer ps vs
-        unfolding listsAnswer hostsAnswer
-        lists-hosts le even p v f g e =
-            let a : take n p ≡ numbers ps = rw counted f in
-            let b : take n v ≡ numbers vs = rw (sym even, counted₂) g in
-            rw (sym whole, t, sym whole₂, u) (e ∙ rw (le-leb n 32 le, a, b))
+        pub lists-even : n ≤ 32 → m ≡ n → (n ≡ length (numbers ps)) × (n ≡ length (numbers vs)) × (n ≤ 32)
+        lists-even le even = (counted, sym even ∙ counted₂, le)
 
-pub ruleset lists-laws = (lists-left, lists-left₂, lists-over, lists-uneven, lists-hosts, not-true, not-false, needs)
+        pub lists-hosts : r ≡ messageAnswer (numbers ps) (numbers vs) → r ≡ listsAnswer ps vs
+        unfolding listsAnswer
+        lists-hosts e = rw (sym whole, t, sym whole₂, u) e
+
+pub ruleset lists-laws = (lists-left, lists-left₂, lists-over, lists-uneven, lists-even, lists-hosts, not-true, not-false, needs)
 
 -- `next_host`: r is its answer
 module _ (l : MxLookup) (ps vs : List ℕ) (r : MessageAnswer) where

@@ -1,11 +1,10 @@
 // The hosts of a message: which of them is tried next, or what the delivery has come to.
 ghost use mathlib.Core.Path.{_≡_};
-ghost use Prim.Native.Nat.{_≤_};
+ghost use Prim.Native.Nat.{_<_, _≤_};
 ghost use lib.ListN.{length, take};
-ghost use Rattle.lists.specs.Bytes.{all};
 ghost use Rattle.numbers.specs.Numbers.{numbers};
-ghost use Rattle.messages.specs.Hosts.{isPreference, isNextHost, isHostVerdict, isHostList, hostsOf, noHost, hostsAnswer, listsAnswer, nextHost};
-ghost use Rattle.messages.specs.Search.{withHost, deciderOf, decidedBy};
+ghost use Rattle.messages.specs.Hosts.{isNextHost, isHostVerdict, noHost, messageAnswer, hostsAnswer, listsAnswer, nextHost};
+ghost use Rattle.messages.specs.Search.{withHost, decidedBy};
 
 // The number of the answer, and the position of the host that decides, counted from 0 in the list as given; 0 where no host does.
 #[repr(C)]
@@ -40,11 +39,11 @@ fn no_host(number: u64) -> MessageAnswer
     }
 }
 
-// Whether p is a preference.
-fn is_preference(p: u64) -> bool
-    ensures { λ r. ⌜ r ≡ isPreference p ⌝ }
+// A preference as a wide number.
+fn wide(p: u16) -> u64
+    ensures { λ r. ⌜ (r ≡ p) × (r < 65536) ⌝ }
 {
-    p <= 65535
+    p as u64
 }
 
 // Whether the verdict says "next host".
@@ -74,53 +73,6 @@ fn is_host_verdict(v: u64) -> bool
         return true;
     }
     is_next_host(v)
-}
-
-// Whether the first `count` numbers are preferences.
-fn are_preferences(a: [u64; 32], count: usize) -> bool
-    requires { ⌜ count ≤ 32 ⌝ }
-    ensures { λ r. ⌜ r ≡ all isPreference (take count a) ⌝ }
-{
-    let mut k = 0;
-    while k < count {
-        let ok = is_preference(a[k]);
-        if !ok {
-            return false;
-        }
-        k += 1;
-    }
-    true
-}
-
-// Whether the first `count` numbers are host verdicts.
-fn are_verdicts(a: [u64; 32], count: usize) -> bool
-    requires { ⌜ count ≤ 32 ⌝ }
-    ensures { λ r. ⌜ r ≡ all isHostVerdict (take count a) ⌝ }
-{
-    let mut k = 0;
-    while k < count {
-        let ok = is_host_verdict(a[k]);
-        if !ok {
-            return false;
-        }
-        k += 1;
-    }
-    true
-}
-
-// Whether the first `count` preferences and verdicts are a list of hosts.
-fn is_host_list(preferences: [u64; 32], verdicts: [u64; 32], count: usize) -> bool
-    requires { ⌜ count ≤ 32 ⌝ }
-    ensures { λ r. ⌜ r ≡ isHostList (take count preferences) (take count verdicts) ⌝ }
-{
-    if count == 0 {
-        return false;
-    }
-    let right = are_preferences(preferences, count);
-    if !right {
-        return false;
-    }
-    are_verdicts(verdicts, count)
 }
 
 // The host that decides among those of `later` and one that was given before them.
@@ -153,21 +105,6 @@ fn with_host(preference: u64, verdict: u64, position: u64, later: Decider) -> De
     }
 }
 
-// The host that decides among the first `count`, looked at from the last to the first, so that of equal preferences the first given stays.
-fn find_decider(preferences: [u64; 32], verdicts: [u64; 32], count: usize) -> Decider
-    requires { ⌜ count ≤ 32 ⌝ }
-    ensures { λ r. ⌜ r ≡ deciderOf (hostsOf (take count preferences) (take count verdicts)) ⌝ }
-{
-    let mut decider = Decider::Nobody;
-    let mut k = count;
-    while 0 < k {
-        let j = k - 1;
-        decider = with_host(preferences[j], verdicts[j], j as u64, decider);
-        k = j;
-    }
-    decider
-}
-
 // The answer of the host that decides, or of a list where none does.
 fn decided_by(decider: Decider) -> MessageAnswer
     ensures { λ r. ⌜ r ≡ decidedBy decider ⌝ }
@@ -192,34 +129,62 @@ fn decided_by(decider: Decider) -> MessageAnswer
     }
 }
 
+// The answer of the first `count` hosts. They are looked at from the last to the first, so that of equal preferences the first given stays.
+fn walk_hosts(preferences: [u16; 32], verdicts: [u8; 32], count: usize) -> MessageAnswer
+    requires { ⌜ (0 < count) × (count ≤ 32) ⌝ }
+    ensures { λ r. ⌜ r ≡ messageAnswer (take count preferences) (take count verdicts) ⌝ }
+{
+    let mut decider = Decider::Nobody;
+    let mut k = count;
+    while 0 < k {
+        let j = k - 1;
+        let v = numbers::wide(verdicts[j]);
+        let right = is_host_verdict(v);
+        if !right {
+            return no_host(63);
+        }
+        let p = wide(preferences[j]);
+        decider = with_host(p, v, j as u64, decider);
+        k = j;
+    }
+    decided_by(decider)
+}
+
 // The answer of a message's hosts: the first `count` preferences, with a verdict each.
-pub fn first_host(preferences: [u64; 32], verdicts: [u64; 32], count: usize) -> MessageAnswer
+pub fn first_host(preferences: [u16; 32], verdicts: [u8; 32], count: usize) -> MessageAnswer
     ensures { λ r. ⌜ r ≡ hostsAnswer count preferences verdicts ⌝ }
 {
     if 32 < count {
         return no_host(63);
     }
-    let right = is_host_list(preferences, verdicts, count);
-    if !right {
+    if count == 0 {
         return no_host(63);
     }
-    let decider = find_decider(preferences, verdicts, count);
-    decided_by(decider)
+    walk_hosts(preferences, verdicts, count)
 }
 
-// The numbers of a list, of which there are at most 32, at the front of an array.
-fn numbers_of(list: &[u8]) -> [u64; 32]
-    requires { ⌜ length (numbers (now list)) ≤ 32 ⌝ }
-    ensures { λ r. ⌜ take (length (numbers (now (list .entry)))) r ≡ numbers (now (list .entry)) ⌝ }
+// The answer of two lists of `count` numbers. They are read once, and go into arrays as far as they fit there: a number that does not is no preference, or no verdict.
+fn read_hosts(preferences: &[u8], verdicts: &[u8], count: usize) -> MessageAnswer
+    requires { ⌜ (count ≡ length (numbers (now preferences))) × (count ≡ length (numbers (now verdicts))) × (count ≤ 32) ⌝ }
+    ensures { λ r. ⌜ r ≡ messageAnswer (numbers (now (preferences .entry))) (numbers (now (verdicts .entry))) ⌝ }
 {
-    let n = numbers::count(list);
-    let mut a = [0u64; 32];
+    let mut p = [0u16; 32];
+    let mut v = [0u8; 32];
     let mut k = 0;
-    while k < n {
-        a[k] = numbers::number(list, k);
+    while k < count {
+        let a = numbers::number(preferences, k);
+        if 65535 < a {
+            return no_host(63);
+        }
+        let b = numbers::number(verdicts, k);
+        if 255 < b {
+            return no_host(63);
+        }
+        p[k] = a as u16;
+        v[k] = b as u8;
         k += 1;
     }
-    a
+    first_host(p, v, count)
 }
 
 // The answer of the two lists, where the MX lookup was answered.
@@ -242,9 +207,7 @@ fn answer_of_lists(preferences: &[u8], verdicts: &[u8]) -> MessageAnswer
     if given != count {
         return no_host(63);
     }
-    let p = numbers_of(preferences);
-    let v = numbers_of(verdicts);
-    first_host(p, v, count)
+    read_hosts(preferences, verdicts, count)
 }
 
 // The answer of a message: how its MX lookup ended, and the lists of its hosts' preferences and verdicts.

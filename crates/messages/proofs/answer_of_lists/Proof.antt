@@ -39,14 +39,8 @@ no-host-requires-4 c κs = search lists-laws
 returns-4 : tie.Need-returns-4
 returns-4 c = search lists-laws
 
-numbers-of-requires : tie.Need-numbers-of-requires
-numbers-of-requires c κs = search lists-laws
-
-numbers-of-requires-2 : tie.Need-numbers-of-requires-2
-numbers-of-requires-2 c κs = search lists-laws
-
-first-host-requires : tie.Need-first-host-requires
-first-host-requires c κs = search lists-laws
+read-hosts-requires : tie.Need-read-hosts-requires
+read-hosts-requires c κs = search lists-laws
 
 returns-5 : tie.Need-returns-5
 returns-5 c = search lists-laws
@@ -67,7 +61,5 @@ answer-of-lists-spec =
     count-requires-2
     no-host-requires-4
     returns-4
-    numbers-of-requires
-    numbers-of-requires-2
-    first-host-requires
+    read-hosts-requires
     returns-5)
