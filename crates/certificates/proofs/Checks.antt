@@ -1,30 +1,21 @@
 -- The ways out of `dane_passes` and `shows_host`. Assumes nothing.
 use Prim.Native.Nat.{ℕ}
 use mathlib.Core.Path.{_≡_, refl, sym, _∙_}
-use mathlib.Core.Bool.{Bool, true, false, _&&_, _||_, or-true}
-use mathlib.Core.List.{List, [], _∷_}
+use mathlib.Core.Bool.{Bool, true, false, _&&_, _||_}
+use mathlib.Core.List.{List}
 use native.Mathlib.Omega.{arith}
 use lib.Dec.{eqb}
 use lib.ListN.{length}
 use borrow.Author.Needs.{needs}
 use borrow.Author.Tests.{not-true, not-false, lt-ltb}
 use Rattle.lists.specs.Bytes.{any}
+use Rattle.lists.proofs.Any.{any-more}
 use Rattle.lists.proofs.Bools.{apart}
 use Rattle.numbers.specs.Numbers.{numbers}
 use Rattle.tlsa.specs.Record.{usageOf, counts}
 use Rattle.certificates.specs.Facts.{Certificate, certificatesOf, dnsIdsOf, commonNameOf, presentedOf}
 use Rattle.certificates.specs.Checks.{matchesCertificate, matchesOnPath, leafOf, afterLeaf, recordMatches, oneMatches, leafNames, someMatches, namesReference, danePasses, showsHost}
 use Rattle.certificates.proofs.Limits.{certificates-count}
-
--- where one test of some elements implies another, so does that some element passes it
-pub any-weaker : {A : Type 0} (p q : A → Bool) → ((x : A) → p x ≡ true → q x ≡ true) → (xs : List A) → any p xs ≡ true → any q xs ≡ true
-unfolding any
-any-weaker p q imp [] h = h
-any-weaker p q imp (x ∷ xs) h = go (any-weaker p q imp xs) (p x) refl h
-  where
-    go : (any p xs ≡ true → any q xs ≡ true) → (t : Bool) → p x ≡ t → (t || any p xs) ≡ true → (q x || any q xs) ≡ true
-    go ih true e k = rw (imp x e)
-    go ih false e k = rw (ih k) (or-true (q x))
 
 -- what passes without names passes with them, and what passes by any names passes where the leaf names a reference
 named-helps : (set : List (List ℕ)) (certs : List Certificate) (named : Bool) (r : List ℕ) → (counts set r && recordMatches false certs r) ≡ true → (counts set r && recordMatches named certs r) ≡ true
@@ -56,7 +47,7 @@ module _ (refs set : List (List ℕ)) (C L P D Q : List ℕ) (root : Bool) (I X 
 
   module _ (x : Bool) (xe : x ≡ oneMatches false set (certificatesOf C L P D Q)) where
     pub dane-unnamed : x ≡ true → true ≡ danePasses refs set (presentedOf C L P D Q root I X given N)
-    dane-unnamed t = sym (says ∙ any-weaker (λ (r : List ℕ). counts set r && recordMatches false (certificatesOf C L P D Q) r) (λ (r : List ℕ). counts set r && recordMatches (any (someMatches (leafNames (dnsIdsOf I X) (commonNameOf given N))) refs) (certificatesOf C L P D Q) r) (named-helps set (certificatesOf C L P D Q) (any (someMatches (leafNames (dnsIdsOf I X) (commonNameOf given N))) refs)) set (sym xe ∙ t))
+    dane-unnamed t = sym (says ∙ any-more (λ (r : List ℕ). counts set r && recordMatches false (certificatesOf C L P D Q) r) (λ (r : List ℕ). counts set r && recordMatches (any (someMatches (leafNames (dnsIdsOf I X) (commonNameOf given N))) refs) (certificatesOf C L P D Q) r) (named-helps set (certificatesOf C L P D Q) (any (someMatches (leafNames (dnsIdsOf I X) (commonNameOf given N))) refs)) set (sym xe ∙ t))
 
     module _ (xf : x ≡ false) (y : Bool) (ye : y ≡ oneMatches true set (certificatesOf C L P D Q)) where
       pub dane-unmatched : y ≡ false → false ≡ danePasses refs set (presentedOf C L P D Q root I X given N)

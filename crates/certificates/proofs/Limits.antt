@@ -7,21 +7,15 @@ use native.Mathlib.Omega.{arith}
 use lib.Dec.{eqb, leb}
 use lib.ListN.{length, getD, take, drop, length-append}
 use borrow.Author.Needs.{needs}
-use borrow.Author.Tests.{not-true, not-false, eq-eqb, ne-eqb, le-leb, lt-leb, leb-true, leb-false}
+use borrow.Author.Tests.{not-true, not-false, eq-eqb, ne-eqb, le-leb, lt-leb}
 use Rattle.lists.specs.Bytes.{all}
+use Rattle.lists.proofs.Laws.{leb-same}
 use Rattle.numbers.specs.Numbers.{numbers, atMost}
 use Rattle.numbers.specs.Pieces.{cut, endOf, numbered, sumsTo, upTo}
 use Rattle.numbers.proofs.Pieces.{cut-count, cut-joined, sums-true, sizes, end-after, end-within}
 use Rattle.numbers.proofs.Loop.{placed-count, test-next, test-fail, test-end}
 use Rattle.certificates.specs.Facts.{certificateAt, certificatesOf}
 use Rattle.certificates.specs.Limits.{certificateFits, totalOf, chainKeepsLimits, commonNameFits, namesKeepLimits, oneForEach, chainFits, namesFit, factsFit}
-
-less-iff : (a b c : ℕ) → a ≤ c → leb b (c - a) ≡ leb (a + b) c
-less-iff a b c h = go (leb b (c - a)) refl
-  where
-    go : (t : Bool) → leb b (c - a) ≡ t → leb b (c - a) ≡ leb (a + b) c
-    go true q = q ∙ sym (le-leb (a + b) c (omega (arith, leb-true b (c - a) q)))
-    go false q = q ∙ sym (lt-leb (a + b) c (omega (arith, leb-false b (c - a) q)))
 
 -- `certificate_fits`: the certificate x at place k, start and size of its key info
 module _ (P x : List ℕ) (k : ℕ) where
@@ -36,7 +30,7 @@ module _ (P x : List ℕ) (k : ℕ) where
 
     pub certificate-inside : start ≤ length x → leb size (length x - start) ≡ certificateFits (certificateAt P [] [] k x)
     unfolding certificateFits certificateAt upTo
-    certificate-inside g = rw (le-leb (length x) 16384 h, ← se, ← ze) (less-iff start size (length x) g)
+    certificate-inside g = rw (le-leb (length x) 16384 h, ← se, ← ze) (leb-same size (length x - start) (start + size) (length x) (λ l. omega arith) (λ l. omega arith))
 
 pub ruleset certificate-laws = (certificate-large, certificate-past, certificate-inside, needs)
 

@@ -1,49 +1,17 @@
 -- What cannot authenticate, and what does not matter: laws of the two checks for every set, every reference and all certificate facts. Assumes nothing.
 use Prim.Native.Nat.{ℕ}
 use mathlib.Core.Path.{_≡_, refl, sym, ap, _∙_}
-use mathlib.Core.Bool.{Bool, true, false, _&&_, _||_, and-false, or-true}
+use mathlib.Core.Bool.{Bool, true, false, _&&_, and-false}
 use mathlib.Core.List.{List, [], _∷_, _++_}
 use mathlib.Core.Logic.{_⊎_, inl, inr}
 use lib.Dec.{eqb}
 use borrow.Author.Tests.{eqb-true}
 use Rattle.lists.specs.Bytes.{all, any}
-use Rattle.lists.proofs.Bools.{apart, and-left, and-right}
+use Rattle.lists.proofs.Any.{any-none, any-fails, any-agree, any-swap}
 use Rattle.tlsa.specs.Record.{usageOf, usable, counts}
 use Rattle.certificates.specs.Facts.{Certificate, Presented}
 use Rattle.certificates.specs.Checks.{matchesCertificate, matchesOnPath, leafOf, afterLeaf, recordMatches, leafNames, namesReference, danePasses, showsHost}
 use Rattle.certificates.proofs.Passing.{matches-3, matches-2}
-
--- two tests that agree on every element of which a third holds
-any-agree : {A : Type 0} (t p q : A → Bool) → ((x : A) → t x ≡ true → p x ≡ q x) → (xs : List A) → all t xs ≡ true → any p xs ≡ any q xs
-unfolding all any
-any-agree t p q same [] h = refl
-any-agree t p q same (x ∷ xs) h = rw (same x (and-left (t x) (all t xs) h), any-agree t p q same xs (and-right (t x) (all t xs) h))
-
--- a test that no element passes
-any-none : {A : Type 0} (p : A → Bool) → ((x : A) → p x ≡ false) → (xs : List A) → any p xs ≡ false
-unfolding any
-any-none p none [] = refl
-any-none p none (x ∷ xs) = rw (none x) (any-none p none xs)
-
--- a test that fails wherever another does
-any-fails : {A : Type 0} (p q : A → Bool) → ((x : A) → p x ≡ false → q x ≡ false) → (xs : List A) → any p xs ≡ false → any q xs ≡ false
-unfolding any
-any-fails p q imp [] h = refl
-any-fails p q imp (x ∷ xs) h = go (any-fails p q imp xs) (p x) refl h
-  where
-    go : (any p xs ≡ false → any q xs ≡ false) → (t : Bool) → p x ≡ t → (t || any p xs) ≡ false → (q x || any q xs) ≡ false
-    go ih true e k = apart (sym k)
-    go ih false e k = rw (imp x e) (ih k)
-
--- two elements that stand side by side may be exchanged
-or-swap : (a b c : Bool) → (a || (b || c)) ≡ (b || (a || c))
-or-swap true b c = sym (or-true b)
-or-swap false b c = refl
-
-any-swap : {A : Type 0} (p : A → Bool) (xs : List A) (a b : A) (ys : List A) → any p (xs ++ (a ∷ b ∷ ys)) ≡ any p (xs ++ (b ∷ a ∷ ys))
-unfolding any
-any-swap p [] a b ys = or-swap (p a) (p b) (any p ys)
-any-swap p (x ∷ xs) a b ys = rw (any-swap p xs a b ys)
 
 -- the test that DANE makes of each record
 abbrev passing : (refs set : List (List ℕ)) → Presented → List ℕ → Bool

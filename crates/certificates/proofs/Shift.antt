@@ -1,24 +1,15 @@
 -- The certificates after the first are those of what is left of each list: reading by place as a recursion over the lists. P, D and Q are the key places, the
 -- digests and the paths. Assumes nothing.
 use Prim.Native.Nat.{ℕ, _+_, _*_}
-use mathlib.Core.Path.{_≡_, refl}
-use mathlib.Core.List.{List, [], _∷_}
+use mathlib.Core.Path.{_≡_}
+use mathlib.Core.List.{List}
 use native.Mathlib.Omega.{arith}
-use lib.ListN.{getD, take, drop}
-use lib.Seq.{getD-drop, drop-drop}
-use Rattle.numbers.specs.Numbers.{numbers}
+use lib.ListN.{take, drop}
+use lib.Seq.{drop-drop}
 use Rattle.numbers.specs.Pieces.{numbered}
-use Rattle.numbers.proofs.Numbers.{numbers-drop}
+use Rattle.numbers.proofs.Numbers.{number-shift}
+use Rattle.numbers.proofs.Pieces.{numbered-shift}
 use Rattle.certificates.specs.Facts.{certificateAt}
-
--- what f makes of each piece and the place after its own, g makes of its own
-pub numbered-shift : {A : Type 0} (f g : ℕ → List ℕ → A) → ((k : ℕ) (x : List ℕ) → f (k + 1) x ≡ g k x) → (k : ℕ) (xs : List (List ℕ)) → numbered f (k + 1) xs ≡ numbered g k xs
-unfolding numbered
-numbered-shift f g h k [] = refl
-numbered-shift f g h k (x ∷ xs) = rw (h k x, numbered-shift f g h (k + 1) xs)
-
-number-shift : (m : ℕ) (s : List ℕ) (i j : ℕ) → j ≡ m + i → getD (numbers s) j 0 ≡ getD (numbers (drop (m * 4) s)) i 0
-number-shift m s i j e = rw (numbers-drop m s, getD-drop m (numbers s) i 0, e)
 
 digest-shift : (D : List ℕ) (k from n : ℕ) → take n (drop ((k + 1) * 192 + from) D) ≡ take n (drop (k * 192 + from) (drop 192 D))
 digest-shift D k from n = let e : (k + 1) * 192 + from ≡ 192 + (k * 192 + from) = omega arith in rw (drop-drop (k * 192 + from) 192 D, e)

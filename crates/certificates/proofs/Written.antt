@@ -6,18 +6,18 @@ use mathlib.Core.List.{List, [], _∷_, _++_, map, flatten}
 use mathlib.Core.Option.{Option, none, some}
 use native.Mathlib.Omega.{arith}
 use lib.Dec.{eqb, leb}
-use lib.ListN.{length, take, drop, length-append, length-drop}
+use lib.ListN.{length, take, drop, length-append, length-drop, length-map}
 use lib.Seq.{take-at, drop-append-add, length-take-le}
 use borrow.Author.Tests.{le-leb, leb-true, eq-eqb, eqb-true}
-use Rattle.lists.specs.Bytes.{all}
+use Rattle.lists.specs.Bytes.{all, isBytes}
+use Rattle.lists.proofs.All.{all-true, all-map, all-more}
 use Rattle.lists.proofs.Bools.{and-left, and-right}
 use Rattle.numbers.specs.Numbers.{numbers, atMost, written}
 use Rattle.numbers.specs.Pieces.{cut, numbered, sumsTo, upTo}
-use Rattle.numbers.proofs.Numbers.{numbers-written, written-length}
 use Rattle.numbers.proofs.Pieces.{cut-count}
-use Rattle.tlsa.proofs.Written.{lengthsOf, lengths-small, pieces-back, pieces-sum}
+use Rattle.numbers.proofs.Written.{numbers-written, written-length, written-bytes, lengthsOf, lengths-small, lengths-bytes, pieces-back, pieces-sum}
 use Rattle.certificates.specs.Facts.{Certificate, Presented, certificateAt, certificatesOf, dnsIdsOf, commonNameOf, presentedOf}
-use Rattle.certificates.specs.Limits.{certificateFits, totalOf, chainKeepsLimits, commonNameFits, namesKeepLimits, keepsLimits, oneForEach, chainFits, namesFit, factsFit}
+use Rattle.certificates.specs.Limits.{certificateFits, totalOf, chainKeepsLimits, commonNameFits, namesKeepLimits, keepsLimits, oneForEach, chainFits, namesFit, factsFit, yesNo}
 use Rattle.certificates.proofs.Shift.{certificates-rest}
 
 -- SHA-256 has 32 bytes, SHA-512 has 64
@@ -36,9 +36,12 @@ abbrev pub digestsOf : List Certificate → List ℕ
 digestsOf [] = []
 digestsOf (c ∷ certs) = c .sha256 ++ (c .sha512 ++ (c .keySha256 ++ (c .keySha512 ++ digestsOf certs)))
 
+-- yes or no as a number
+abbrev pub yesNoOf : Bool → ℕ
+yesNoOf t = cond t 1 2
+
 abbrev pub flagsOf : List Certificate → List ℕ
-flagsOf [] = []
-flagsOf (c ∷ certs) = cond (c .path) 1 2 ∷ flagsOf certs
+flagsOf certs = map (λ (c : Certificate). yesNoOf (c .path)) certs
 
 -- past a part of n bytes
 past : (p q : List ℕ) (n m : ℕ) → length p ≡ n → drop (n + m) (p ++ q) ≡ drop m q
@@ -80,18 +83,26 @@ places-small (c ∷ certs) h =
     let inside : c .keyStart + c .keyLength ≤ length (c .bytes) = leb-true (c .keyStart + c .keyLength) (length (c .bytes)) (and-right (leb (length (c .bytes)) 16384) (leb (c .keyStart + c .keyLength) (length (c .bytes))) fits) in
     rw (le-leb (c .keyStart) 4294967295 (omega arith), le-leb (c .keyLength) 4294967295 (omega arith)) (places-small certs (and-right (certificateFits c) (all certificateFits certs) h))
 
-flags-small : (certs : List Certificate) → all (atMost 4294967295) (flagsOf certs) ≡ true
-unfolding all atMost
-flags-small [] = refl
-flags-small (c ∷ certs) = go (c .path) (flags-small certs)
-  where
-    go : (t : Bool) → all (atMost 4294967295) (flagsOf certs) ≡ true → (leb (cond t 1 2) 4294967295 && all (atMost 4294967295) (flagsOf certs)) ≡ true
-    go true ih = ih
-    go false ih = ih
+-- yes and no are read back, keep their limit and are numbers of four bytes
+pub yes-no-back : (t : Bool) → eqb (yesNoOf t) 1 ≡ t
+yes-no-back true = refl
+yes-no-back false = refl
 
-flag-back : (t : Bool) → eqb (cond t 1 2) 1 ≡ t
-flag-back true = refl
-flag-back false = refl
+pub yes-no-fits : (t : Bool) → yesNo (yesNoOf t) ≡ true
+unfolding yesNo
+yes-no-fits true = refl
+yes-no-fits false = refl
+
+yes-no-small : (t : Bool) → leb (yesNoOf t) 4294967295 ≡ true
+yes-no-small true = refl
+yes-no-small false = refl
+
+flags-small : (certs : List Certificate) → all (atMost 4294967295) (flagsOf certs) ≡ true
+unfolding atMost
+flags-small certs = rw (all-map (λ (c : Certificate). yesNoOf (c .path)) (atMost 4294967295) certs) (all-true (λ (c : Certificate). leb (yesNoOf (c .path)) 4294967295) (λ c. yes-no-small (c .path)) certs)
+
+pub flags-fit : (certs : List Certificate) → all yesNo (numbers (written (flagsOf certs))) ≡ true
+flags-fit certs = rw (numbers-written (flagsOf certs) (flags-small certs), all-map (λ (c : Certificate). yesNoOf (c .path)) yesNo certs) (all-true (λ (c : Certificate). yesNo (yesNoOf (c .path))) (λ c. yes-no-fits (c .path)) certs)
 
 -- certificates with the same fields
 same-fields : (x y : Certificate) → x .bytes ≡ y .bytes → x .keyStart ≡ y .keyStart → x .keyLength ≡ y .keyLength → x .sha256 ≡ y .sha256 → x .sha512 ≡ y .sha512 → x .keySha256 ≡ y .keySha256 → x .keySha512 ≡ y .keySha512 → x .path ≡ y .path → x ≡ y
@@ -114,7 +125,7 @@ module _ (c : Certificate) (ps ds fs : List ℕ) (sized : digestsSized c ≡ tru
   rest-of-digests : drop 192 (c .sha256 ++ (c .sha512 ++ (c .keySha256 ++ (c .keySha512 ++ ds)))) ≡ ds
   rest-of-digests = past-digests (c .sha256) (c .sha512) (c .keySha256) (c .keySha512) ds (sizes .0) (sizes .1) (sizes .2) (sizes .3)
 
-  first-back : (P Q : List ℕ) → numbers P ≡ c .keyStart ∷ c .keyLength ∷ ps → numbers Q ≡ cond (c .path) 1 2 ∷ fs → certificateAt P (c .sha256 ++ (c .sha512 ++ (c .keySha256 ++ (c .keySha512 ++ ds)))) Q 0 (c .bytes) ≡ c
+  first-back : (P Q : List ℕ) → numbers P ≡ c .keyStart ∷ c .keyLength ∷ ps → numbers Q ≡ yesNoOf (c .path) ∷ fs → certificateAt P (c .sha256 ++ (c .sha512 ++ (c .keySha256 ++ (c .keySha512 ++ ds)))) Q 0 (c .bytes) ≡ c
   unfolding certificateAt
   first-back P Q p q =
       same-fields (certificateAt P (c .sha256 ++ (c .sha512 ++ (c .keySha256 ++ (c .keySha512 ++ ds)))) Q 0 (c .bytes)) c
@@ -123,7 +134,7 @@ module _ (c : Certificate) (ps ds fs : List ℕ) (sized : digestsSized c ≡ tru
       (second-digest (c .sha256) (c .sha512) (c .keySha256) (c .keySha512) ds (sizes .0) (sizes .1) (sizes .2) (sizes .3))
       (third-digest (c .sha256) (c .sha512) (c .keySha256) (c .keySha512) ds (sizes .0) (sizes .1) (sizes .2) (sizes .3))
       (fourth-digest (c .sha256) (c .sha512) (c .keySha256) (c .keySha512) ds (sizes .0) (sizes .1) (sizes .2) (sizes .3))
-      (rw q (flag-back (c .path)))
+      (rw q (yes-no-back (c .path)))
 
 -- so are all of them
 placed-back : (certs : List Certificate) → all certificateFits certs ≡ true → all digestsSized certs ≡ true → numbered (certificateAt (written (placesOf certs)) (digestsOf certs) (written (flagsOf certs))) 0 (bodiesOf certs) ≡ certs
@@ -141,24 +152,13 @@ placed-back (c ∷ certs) h s = rw (first, rest, placed-back certs (and-right (c
     rest = certificates-rest (written (placesOf (c ∷ certs))) (digestsOf (c ∷ certs)) (written (flagsOf (c ∷ certs))) 0 (bodiesOf certs) ∙ ap (λ (d : List ℕ). numbered (certificateAt (written (placesOf certs)) d (written (flagsOf certs))) 0 (bodiesOf certs)) (rest-of-digests c (placesOf certs) (digestsOf certs) (flagsOf certs) sized)
 
 bodies-fit : (certs : List Certificate) → all certificateFits certs ≡ true → all (upTo 16384) (bodiesOf certs) ≡ true
-unfolding all certificateFits upTo
-bodies-fit [] h = refl
-bodies-fit (c ∷ certs) h =
-    let fits = and-left (certificateFits c) (all certificateFits certs) h in
-    rw (and-left (leb (length (c .bytes)) 16384) (leb (c .keyStart + c .keyLength) (length (c .bytes))) fits) (bodies-fit certs (and-right (certificateFits c) (all certificateFits certs) h))
+unfolding certificateFits
+bodies-fit certs h = rw (all-map (λ (c : Certificate). c .bytes) (upTo 16384) certs) (all-more certificateFits (λ (c : Certificate). upTo 16384 (c .bytes)) (λ c e. and-left (upTo 16384 (c .bytes)) (leb (c .keyStart + c .keyLength) (length (c .bytes))) e) certs h)
 
 -- how long the lists are
 count-places : (certs : List Certificate) → length (placesOf certs) ≡ length certs * 2
 count-places [] = refl
 count-places (c ∷ certs) = omega (arith, count-places certs)
-
-count-flags : (certs : List Certificate) → length (flagsOf certs) ≡ length certs
-count-flags [] = refl
-count-flags (c ∷ certs) = omega (arith, count-flags certs)
-
-count-bodies : (certs : List Certificate) → length (map length (bodiesOf certs)) ≡ length certs
-count-bodies [] = refl
-count-bodies (c ∷ certs) = omega (arith, count-bodies certs)
 
 count-digests : (certs : List Certificate) → all digestsSized certs ≡ true → length (digestsOf certs) ≡ length certs * 192
 unfolding all
@@ -189,7 +189,7 @@ module _ (certs : List Certificate) (h : chainKeepsLimits certs ≡ true) (s : a
   chain-back = rw (pieces-back 16384 (omega arith) (bodiesOf certs) (bodies-fit certs each-fits)) (placed-back certs each-fits s)
 
   counted : length (numbers (lengthsOf (bodiesOf certs))) ≡ length certs
-  counted = rw (numbers-written (map length (bodiesOf certs)) (lengths-small 16384 (omega arith) (bodiesOf certs) (bodies-fit certs each-fits))) (count-bodies certs)
+  counted = rw (numbers-written (map length (bodiesOf certs)) (lengths-small 16384 (omega arith) (bodiesOf certs) (bodies-fit certs each-fits))) (length-map (bodiesOf certs) length ∙ length-map certs _)
 
   all-listed : oneForEach (length certs) (written (placesOf certs)) (digestsOf certs) (written (flagsOf certs)) ≡ true
   unfolding oneForEach
@@ -197,7 +197,7 @@ module _ (certs : List Certificate) (h : chainKeepsLimits certs ≡ true) (s : a
       rw (
         eq-eqb (length (written (placesOf certs))) (length certs * 8) (omega (arith, written-length (placesOf certs), count-places certs)),
         eq-eqb (length (digestsOf certs)) (length certs * 192) (count-digests certs s),
-        eq-eqb (length (written (flagsOf certs))) (length certs * 4) (omega (arith, written-length (flagsOf certs), count-flags certs)),
+        eq-eqb (length (written (flagsOf certs))) (length certs * 4) (omega (arith, written-length (flagsOf certs), length-map certs (λ (c : Certificate). yesNoOf (c .path)))),
       )
 
   pub chain-accepted : chainFits (flatten (bodiesOf certs)) (lengthsOf (bodiesOf certs)) (written (placesOf certs)) (digestsOf certs) (written (flagsOf certs)) ≡ true
@@ -247,6 +247,19 @@ module _ (p : Presented) (h : keepsLimits p ≡ true) (s : all digestsSized (p .
   pub facts-accepted : factsFit (flatten (bodiesOf (p .certificates))) (lengthsOf (bodiesOf (p .certificates))) (written (placesOf (p .certificates))) (digestsOf (p .certificates)) (written (flagsOf (p .certificates))) (flatten (p .dnsIds)) (lengthsOf (p .dnsIds)) (isGiven (p .commonName)) (nameOf (p .commonName)) ≡ true
   unfolding factsFit
   facts-accepted = rw (chain-accepted (p .certificates) chain s) (names-accepted (p .dnsIds) (p .commonName) names)
+
+  -- the lists of numbers are bytes
+  pub certificate-lengths-bytes : isBytes (lengthsOf (bodiesOf (p .certificates))) ≡ true
+  certificate-lengths-bytes = lengths-bytes 16384 (omega arith) (bodiesOf (p .certificates)) (bodies-fit (p .certificates) (each-fits (p .certificates) chain s))
+
+  pub places-bytes : isBytes (written (placesOf (p .certificates))) ≡ true
+  places-bytes = written-bytes (placesOf (p .certificates)) (places-small (p .certificates) (each-fits (p .certificates) chain s))
+
+  pub flags-bytes : isBytes (written (flagsOf (p .certificates))) ≡ true
+  flags-bytes = written-bytes (flagsOf (p .certificates)) (flags-small (p .certificates))
+
+  pub id-lengths-bytes : isBytes (lengthsOf (p .dnsIds)) ≡ true
+  id-lengths-bytes = lengths-bytes 255 (omega arith) (p .dnsIds) (ids-fit (p .dnsIds) (p .commonName) names)
 
 -- The other way: what a call gives and is accepted is within the limits, with digests of their sizes.
 digest-size : (D : List ℕ) (from n : ℕ) → from + n ≤ length D → length (take n (drop from D)) ≡ n

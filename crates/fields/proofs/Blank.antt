@@ -1,7 +1,7 @@
 -- Laws of the blanks at the end of a text, and the turns of the loop over them. Assumes nothing.
 use Prim.Native.Nat.{ℕ, zero, suc, _-_, _<_, _≤_}
 use mathlib.Core.Path.{_≡_, sym, _∙_}
-use mathlib.Core.Bool.{Bool, true, false, cond, _&&_, and-false}
+use mathlib.Core.Bool.{Bool, true, false, cond, and-false, and-true}
 use mathlib.Core.List.{List, [], _∷_}
 use native.Mathlib.Omega.{arith}
 use lib.ListN.{length, getD, take}
@@ -9,34 +9,22 @@ use lib.Seq.{take-length}
 use borrow.Author.Needs.{needs}
 use borrow.Author.Tests.{not-true, not-false}
 use Rattle.lists.specs.Bytes.{all}
+use Rattle.lists.proofs.All.{all-take-next}
 use Rattle.fields.specs.Blank.{blank, unblanked}
-
--- one byte more at the end of what passes a test
-pub all-take-yes : (p : ℕ → Bool) (s : List ℕ) (i : ℕ) → i < length s → p (getD s i 0) ≡ true → all p (take (suc i) s) ≡ all p (take i s)
-unfolding all
-all-take-yes p [] i h t = absurd (omega arith)
-all-take-yes p (x ∷ s) zero h t = cc
-all-take-yes p (x ∷ s) (suc i) h t = rw (all-take-yes p s i (omega arith) t)
-
-pub all-take-no : (p : ℕ → Bool) (s : List ℕ) (i : ℕ) → i < length s → p (getD s i 0) ≡ false → all p (take (suc i) s) ≡ false
-unfolding all
-all-take-no p [] i h t = absurd (omega arith)
-all-take-no p (x ∷ s) zero h t = cc
-all-take-no p (x ∷ s) (suc i) h t = rw (all-take-no p s i (omega arith) t) (and-false (p x))
 
 -- a blank at the end counts for nothing
 unblanked-yes : (s : List ℕ) (i : ℕ) → i < length s → blank (getD s i 0) ≡ true → unblanked (take (suc i) s) ≡ unblanked (take i s)
 unfolding unblanked all
 unblanked-yes [] i h t = absurd (omega arith)
 unblanked-yes (x ∷ s) zero h t = cc
-unblanked-yes (x ∷ s) (suc i) h t = cc (unblanked-yes s i (omega arith) t, all-take-yes blank s i (omega arith) t)
+unblanked-yes (x ∷ s) (suc i) h t = cc (unblanked-yes s i (omega arith) t, all-take-next blank s i (omega arith), and-true (all blank (take i s)))
 
 -- any other byte at the end does
 unblanked-no : (s : List ℕ) (i : ℕ) → i < length s → blank (getD s i 0) ≡ false → unblanked (take (suc i) s) ≡ suc i
 unfolding unblanked all
 unblanked-no [] i h t = absurd (omega arith)
 unblanked-no (x ∷ s) zero h t = cc
-unblanked-no (x ∷ s) (suc i) h t = simp (unblanked-no s i (omega arith) t, all-take-no blank s i (omega arith) t, and-false)
+unblanked-no (x ∷ s) (suc i) h t = simp (unblanked-no s i (omega arith) t, all-take-next blank s i (omega arith), t, and-false)
 
 pub unblanked-le : (s : List ℕ) → unblanked s ≤ length s
 unfolding unblanked

@@ -1,7 +1,7 @@
 -- The ways out of `is_letter_or_digit`: small letters first. Assumes nothing.
 use Prim.Native.Nat.{ℕ, _<_, _≤_}
 use mathlib.Core.Path.{_≡_}
-use mathlib.Core.Bool.{Bool, false, and-false, or-false}
+use mathlib.Core.Bool.{false, and-false, or-false}
 use native.Mathlib.Omega.{arith}
 use lib.Dec.{leb}
 use borrow.Author.Needs.{needs}

@@ -1,18 +1,20 @@
 -- The names of fields: the ways out of `name_end`, what its answer says to a caller, and that a text has one name at most. Assumes nothing.
-use Prim.Native.Nat.{ℕ, suc, _+_, _-_, _<_, _≤_}
+use Prim.Native.Nat.{ℕ, _+_, _-_, _<_, _≤_}
 use mathlib.Core.Path.{_≡_, refl, sym, _∙_}
-use mathlib.Core.Bool.{Bool, true, false, cond, not, _&&_, and-false}
-use mathlib.Core.List.{List, [], _∷_, _++_}
+use mathlib.Core.Bool.{Bool, true, false, cond, _&&_, and-false}
+use mathlib.Core.List.{List, _∷_, _++_}
 use native.Mathlib.Omega.{arith}
-use lib.Dec.{eqb, leb, ltb}
+use lib.Dec.{eqb, ltb}
 use lib.ListN.{length, getD, take, drop, length-append, length-drop, take-append-drop}
 use lib.Seq.{length-take-le, getD-take, drop-drop, take-append-seam, drop-append-seam}
 use borrow.Author.Needs.{needs}
-use borrow.Author.Tests.{not-true, not-false, lt-leb, le-leb, lt-ltb, le-ltb, ne-eqb, ltb-true, leb-true, eqb-true}
+use borrow.Author.Tests.{not-true, not-false, lt-leb, le-leb, lt-ltb, le-ltb, ne-eqb, ltb-true}
 use Rattle.lists.specs.Bytes.{within, all}
-use Rattle.lists.specs.Split.{indexOf, lacks}
+use Rattle.lists.specs.Split.{indexOf}
 use Rattle.lists.proofs.Laws.{drop-next}
 use Rattle.lists.proofs.Split.{indexOf-here, indexOf-next, index-after, index-there}
+use Rattle.lists.proofs.All.{all-lacks}
+use Rattle.lists.proofs.Bools.{and-right, never}
 use Rattle.fields.specs.declared.Field.{Field}
 use Rattle.fields.specs.Name.{letterOrDigit, nameByte, isFieldName, before, after, hasName, fieldAt}
 
@@ -110,7 +112,7 @@ module _ (end : ℕ) (s : List ℕ) where
     where
       go : (t : Bool) → (t && isFieldName (before end s)) ≡ true → (t ≡ true) × (isFieldName (before end s) ≡ true)
       go true k = (refl, k)
-      go false k = absurd (let z : _≡_ {A = ℕ} 0 1 = cc in omega arith)
+      go false k = never cc
 
   pub has-inside : hasName end s ≡ true → indexOf end s < length s
   has-inside h = ltb-true (indexOf end s) (length s) (has-parts h .0)
@@ -133,7 +135,7 @@ module _ (end : ℕ) (s : List ℕ) (at : ℕ) (f : Field) (gave : f ≡ fieldAt
     where
       go : (t : Bool) → Field.Named e ≡ cond t (Field.Named (at + indexOf end (drop at s))) Field.Malformed → (t ≡ true) × (e ≡ at + indexOf end (drop at s))
       go true k = (refl, cc)
-      go false k = absurd (let z : _≡_ {A = ℕ} 0 1 = cc in omega arith)
+      go false k = never cc
 
   -- a name was found, and `end` stands at e
   module _ (e : ℕ) (q : f ≡ Field.Named e) where
@@ -164,7 +166,7 @@ module _ (end : ℕ) (s : List ℕ) (at : ℕ) (f : Field) (gave : f ≡ fieldAt
   malformed-has q = go (hasName end (drop at s)) (sym q ∙ gave)
     where
       go : (t : Bool) → Field.Malformed ≡ cond t (Field.Named (at + indexOf end (drop at s))) Field.Malformed → t ≡ false
-      go true k = absurd (let z : _≡_ {A = ℕ} 0 1 = cc in omega arith)
+      go true k = never cc
       go false k = refl
 
 -- the same where the name begins the text
@@ -189,30 +191,13 @@ module _ (end : ℕ) (s : List ℕ) (f : Field) (gave : f ≡ fieldAt end s 0) w
   front-malformed q = malformed-has end s 0 f gave q
 
 -- a field's name, the byte that ends it, and anything after: the name and what follows it are read back, so a text has one name at most
-name-lacks : (end : ℕ) → nameByte end ≡ false → (n : List ℕ) → all nameByte n ≡ true → lacks end n ≡ true
-unfolding all
-name-lacks end b [] h = refl
-name-lacks end b (x ∷ n) h = go (name-lacks end b n) (nameByte x) refl (eqb x end) refl h
-  where
-    go : (all nameByte n ≡ true → lacks end n ≡ true) → (t : Bool) → nameByte x ≡ t → (u : Bool) → eqb x end ≡ u → (t && all nameByte n) ≡ true → (not u && lacks end n) ≡ true
-    go ih true p false q k = ih k
-    go ih true p true q k =
-        let y : x ≡ end = omega (arith, eqb-true x end q) in
-        absurd (let z : _≡_ {A = ℕ} 0 1 = cc in omega arith)
-    go ih false p u q k = absurd (let z : _≡_ {A = ℕ} 0 1 = cc in omega arith)
-
-name-all : (n : List ℕ) → isFieldName n ≡ true → all nameByte n ≡ true
+pub name-bytes : (n : List ℕ) → isFieldName n ≡ true → all nameByte n ≡ true
 unfolding isFieldName
-name-all n h = go (within 1 32 (length n)) (letterOrDigit (getD n 0 0)) h
-  where
-    go : (t u : Bool) → (t && u && all nameByte n) ≡ true → all nameByte n ≡ true
-    go true true k = k
-    go true false k = absurd (let z : _≡_ {A = ℕ} 0 1 = cc in omega arith)
-    go false u k = absurd (let z : _≡_ {A = ℕ} 0 1 = cc in omega arith)
+name-bytes n h = and-right (within 1 32 (length n) && letterOrDigit (getD n 0 0)) (all nameByte n) h
 
 module _ (end : ℕ) (ends : nameByte end ≡ false) (n v : List ℕ) (name : isFieldName n ≡ true) where
   pub written-place : indexOf end (n ++ (end ∷ v)) ≡ length n
-  written-place = index-after end n v (name-lacks end ends n (name-all n name))
+  written-place = index-after end n v (all-lacks nameByte end ends n (name-bytes n name))
 
   pub written-before : before end (n ++ (end ∷ v)) ≡ n
   written-before = rw (written-place) (take-append-seam n (end ∷ v))

@@ -1,9 +1,8 @@
 -- Names of fields and blanks, worked by computing: the definitions say what document 01 says. Assumes nothing.
-use Prim.Native.Nat.{ℕ}
 use Prim.Native.Char.{code}
 use mathlib.Core.Path.{_≡_, refl}
-use mathlib.Core.Bool.{Bool, true, false}
-use mathlib.Core.List.{List, [], _∷_, map}
+use mathlib.Core.Bool.{true, false}
+use mathlib.Core.List.{[], _∷_, map}
 use Rattle.lists.specs.Bytes.{all}
 use Rattle.lists.specs.Split.{indexOf}
 use Rattle.lists.specs.Span.{spanOf}

@@ -1,5 +1,5 @@
 -- Arguments that the call accepts: every check passes, and the values of the facts keep the limits. Assumes nothing.
-use Prim.Native.Nat.{ℕ, zero, suc, _+_, _*_, _<_, _≤_}
+use Prim.Native.Nat.{ℕ, _+_, _*_, _<_, _≤_}
 use mathlib.Core.Path.{_≡_, refl, sym, _∙_, ap, subst}
 use mathlib.Core.Bool.{Bool, true, false, not, cond, _&&_, _||_}
 use mathlib.Core.List.{List, [], _∷_}
@@ -9,26 +9,27 @@ use lib.Dec.{T, eqb, leb}
 use lib.ListN.{length, getD, take, drop, length-drop}
 use lib.Seq.{length-take-le}
 use borrow.Author.Tests.{le-leb, leb-true, eq-eqb, eqb-true}
-use Rattle.lists.specs.Bytes.{all, within}
-use Rattle.lists.proofs.Bools.{apart, and-left, and-right, and-intro}
+use Rattle.lists.specs.Bytes.{all, within, isBytes}
+use Rattle.lists.proofs.Bools.{apart, and-left, and-right, and-intro, holds, by-true, or-right, neither-right, never}
+use Rattle.lists.proofs.All.{all-take, all-drop, all-at}
 use Rattle.numbers.specs.Numbers.{numbers}
-use Rattle.numbers.specs.Pieces.{cut, sumsTo, numbered}
-use Rattle.numbers.proofs.Pieces.{cut-count}
+use Rattle.numbers.specs.Pieces.{cut, sumsTo}
+use Rattle.numbers.proofs.Pieces.{cut-count, cut-all, numbered-all}
 use Rattle.names.specs.Name.{isName}
 use Rattle.policies.specs.Policy.{Reading, tooLong, malformed, incomplete, policy, readBody, answerTo, policyAnswer}
 use Rattle.tlsa.specs.declared.Lookup.{Lookup}
 use Rattle.tlsa.specs.declared.Lookup.the-variants as L
 use Rattle.tlsa.specs.Answer.{answerOf, answerFits, setFits, recordsOf}
-use Rattle.certificates.specs.Facts.{certificateAt, certificatesOf, dnsIdsOf, commonNameOf, presentedOf}
-use Rattle.certificates.specs.Limits.{chainKeepsLimits, namesKeepLimits, keepsLimits, oneForEach, chainFits, namesFit, factsFit}
+use Rattle.certificates.specs.Facts.{certificateAt, certificatesOf, commonNameOf, presentedOf}
+use Rattle.certificates.specs.Limits.{chainKeepsLimits, keepsLimits, oneForEach, chainFits, namesFit, factsFit}
+use Rattle.certificates.proofs.Written.{nameOf, facts-limits}
 use Rattle.hosts.specs.declared.HostAnswer.{HostAnswer}
 use Rattle.hosts.specs.Facts.{tlsa, first, second, starttls, handshake, certificates, given}
 use Rattle.hosts.specs.Arguments.{Arguments, originOf, addressOf, isAlias, lookupOf, when, baseOf, presentedIn, factsOf}
 use Rattle.hosts.specs.Call.{ifSupplied, codesFit, clocksFit, hostFits, hostNamesFit, policyFits, answersFit, certificatesFit, Check, checks, refused, checked, walked, hostAnswer}
 use Rattle.hosts.specs.Demands.{isRefusal, IsPassed}
-use Rattle.hosts.proofs.Logic.{holds, by-true, isBytes, or-right, neither-right, all-take, all-drop}
 use Rattle.hosts.proofs.Trees.{GivenOk}
-use Rattle.hosts.proofs.Values.{OkAnswer, sized, okCertificate, commonBytes, OkPresented, Ok}
+use Rattle.hosts.proofs.Values.{OkAnswer, sized, okCertificate, OkPresented, Ok}
 use Rattle.hosts.proofs.Matter.{OkName}
 
 -- every check passes
@@ -138,12 +139,6 @@ accepted-passes a = by-answer-of isRefusal refl fifty-refuses a (λ (r : HostAns
 
 -- bytes
 
-all-at : {A : Type 0} (p : A → Bool) (d : A) (l : List A) (i : ℕ) → i < length l → all p l ≡ true → p (getD l i d) ≡ true
-unfolding all
-all-at p d [] i h k = absurd (omega arith)
-all-at p d (x ∷ l) zero h k = and-left (p x) (all p l) k
-all-at p d (x ∷ l) (suc i) h k = all-at p d l i (omega arith) (and-right (p x) (all p l) k)
-
 abbrev pub slices : Arguments → List (List ℕ)
 slices a = a .nextHop ∷ a .host ∷ a .expanded ∷ a .body ∷ a .lengths1 ∷ a .records1 ∷ a .lengths2 ∷ a .records2 ∷ a .certificates ∷ a .certificateLengths ∷ a .keyPlaces ∷ a .digests ∷ a .paths ∷ a .dnsIds ∷ a .dnsIdLengths ∷ a .commonName ∷ []
 
@@ -160,29 +155,16 @@ isNumber n = leb n 18446744073709551615
 pub number-fits : (a : Arguments) → IsPassed a → (i : ℕ) → i < 13 → isNumber (getD (numbersIn a) i 0) ≡ true
 number-fits a h i k = all-at isNumber 0 (numbersIn a) i k (holds (all isNumber (numbersIn a)) (h .numbers))
 
-cut-bytes : (s ns : List ℕ) → isBytes s ≡ true → all isBytes (cut s ns) ≡ true
-unfolding cut all
-cut-bytes s [] h = refl
-cut-bytes s (n ∷ ns) h = and-intro (isBytes (take n s)) (all isBytes (cut (drop n s) ns)) (all-take (λ (b : ℕ). leb b 255) n s h) (cut-bytes (drop n s) ns (all-drop (λ (b : ℕ). leb b 255) n s h))
-
 -- TLSA answers
 
 answer-ok : (l : Lookup) (lengths records : List ℕ) → answerFits l lengths records ≡ true → isBytes records ≡ true → OkAnswer (answerOf l lengths records)
 unfolding answerFits answerOf
-answer-ok L.Secure lengths records h k = (and-right (sumsTo lengths (length records)) (setFits (recordsOf lengths records)) h, cut-bytes records (numbers lengths) k)
+answer-ok L.Secure lengths records h k = (and-right (sumsTo lengths (length records)) (setFits (recordsOf lengths records)) h, cut-all (λ (b : ℕ). leb b 255) records (numbers lengths) k)
 answer-ok L.Insecure lengths records h k = tt
 answer-ok L.Absent lengths records h k = tt
 answer-ok L.Failed lengths records h k = tt
 
 -- certificate facts
-
-numbered-all : {A : Type 0} (p : A → Bool) (f : ℕ → List ℕ → A) (n : ℕ) → ((j : ℕ) (x : List ℕ) → j < n → isBytes x ≡ true → p (f j x) ≡ true)
-    → (k : ℕ) (xs : List (List ℕ)) → k + length xs ≤ n → all isBytes xs ≡ true → all p (numbered f k xs) ≡ true
-unfolding numbered all
-numbered-all p f n h k [] l b = refl
-numbered-all p f n h k (x ∷ xs) l b =
-    and-intro (p (f k x)) (all p (numbered f (k + 1) xs)) (h k x (omega arith) (and-left (isBytes x) (all isBytes xs) b))
-    (numbered-all p f n h (k + 1) xs (omega arith) (and-right (isBytes x) (all isBytes xs) b))
 
 digest-ok : (D : List ℕ) (at n : ℕ) → at + n ≤ length D → isBytes D ≡ true → sized n (take n (drop at D)) ≡ true
 digest-ok D at n h b = and-intro (eqb (length (take n (drop at D))) n) (isBytes (take n (drop at D))) (eq-eqb (length (take n (drop at D))) n (length-take-le n (drop at D) (omega (arith, length-drop at D)))) (all-take (λ (x : ℕ). leb x 255) n (drop at D) (all-drop (λ (x : ℕ). leb x 255) at D b))
@@ -196,9 +178,9 @@ unfolding oneForEach certificatesOf
 chain-ok C L P D Q h c d =
     let n : ℕ = length (numbers L) in
     let l : length D ≡ n * 192 = eqb-true (length D) (n * 192) (and-right (eqb (length P) (n * 8)) (eqb (length D) (n * 192)) (and-left (eqb (length P) (n * 8) && eqb (length D) (n * 192)) (eqb (length Q) (n * 4)) h)) in
-    numbered-all okCertificate (certificateAt P D Q) n (λ j x k b. certificate-ok P D Q n j x l d k b) 0 (cut C (numbers L)) (omega (arith, cut-count C (numbers L))) (cut-bytes C (numbers L) c)
+    numbered-all okCertificate isBytes (certificateAt P D Q) n (λ j x k b. certificate-ok P D Q n j x l d k b) 0 (cut C (numbers L)) (omega (arith, cut-count C (numbers L))) (cut-all (λ (b : ℕ). leb b 255) C (numbers L) c)
 
-common-ok : (given : Bool) (name : List ℕ) → isBytes name ≡ true → isBytes (commonBytes (commonNameOf given name)) ≡ true
+common-ok : (given : Bool) (name : List ℕ) → isBytes name ≡ true → isBytes (nameOf (commonNameOf given name)) ≡ true
 unfolding all
 common-ok true name h = h
 common-ok false name h = refl
@@ -208,35 +190,23 @@ module _ (C L P D Q I X N : List ℕ) (root given : Bool) (h : factsFit C L P D 
   unfolding factsFit
   chain-fits = and-left (chainFits C L P D Q) (namesFit I X given N) h
 
-  names-fit : namesFit I X given N ≡ true
-  unfolding factsFit
-  names-fit = and-right (chainFits C L P D Q) (namesFit I X given N) h
-
   one-each : oneForEach (length (numbers L)) P D Q ≡ true
   unfolding chainFits
   one-each = and-right (sumsTo L (length C) && chainKeepsLimits (certificatesOf C L P D Q)) (oneForEach (length (numbers L)) P D Q) chain-fits
 
-  chain-limits : chainKeepsLimits (certificatesOf C L P D Q) ≡ true
-  unfolding chainFits
-  chain-limits = and-right (sumsTo L (length C)) (chainKeepsLimits (certificatesOf C L P D Q)) (and-left (sumsTo L (length C) && chainKeepsLimits (certificatesOf C L P D Q)) (oneForEach (length (numbers L)) P D Q) chain-fits)
-
-  names-limits : namesKeepLimits (dnsIdsOf I X) (commonNameOf given N) ≡ true
-  unfolding namesFit
-  names-limits = and-right (sumsTo X (length I)) (namesKeepLimits (dnsIdsOf I X) (commonNameOf given N)) names-fit
-
   facts-ok : isBytes C ≡ true → isBytes D ≡ true → isBytes I ≡ true → isBytes N ≡ true → OkPresented (presentedOf C L P D Q root I X given N)
   unfolding presentedOf keepsLimits
   facts-ok c d i n = record {
-    limits = and-intro (chainKeepsLimits (certificatesOf C L P D Q)) (namesKeepLimits (dnsIdsOf I X) (commonNameOf given N)) chain-limits names-limits;
+    limits = facts-limits C L P D Q root I X given N h;
     each = chain-ok C L P D Q one-each c d;
-    ids = cut-bytes I (numbers X) i;
+    ids = cut-all (λ (b : ℕ). leb b 255) I (numbers X) i;
     name = common-ok given N n;
   }
 
 -- what is given where a test holds
 given-when : {A : Type 0} (P : A → Type 0) (t : Bool) (x v : A) → (t ≡ true → P x) → when t x ≡ some v → P v
 given-when P true x v h e = let z : x ≡ v = cc in subst P z (h refl)
-given-when P false x v h e = absurd (let z : _≡_ {A = ℕ} 0 1 = cc in omega arith)
+given-when P false x v h e = never cc
 
 supplied : (s t : Bool) → ifSupplied s t ≡ true → s ≡ true → t ≡ true
 supplied true t h e = h

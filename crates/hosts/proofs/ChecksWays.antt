@@ -1,14 +1,13 @@
 -- The ways out of the argument checks. Assumes nothing.
 use Prim.Native.Nat.{ℕ, _<_, _≤_}
 use mathlib.Core.Path.{_≡_, _∙_}
-use mathlib.Core.Bool.{Bool, true, false, _&&_}
+use mathlib.Core.Bool.{Bool, true, false, _&&_, and-assoc}
 use mathlib.Core.List.{List, []}
 use lib.Dec.{eqb, leb}
 use borrow.Author.Needs.{needs}
 use borrow.Author.Tests.{not-true, not-false, lt-leb, le-leb, ne-eqb}
 use Rattle.lists.specs.Bytes.{within, all}
 use Rattle.lists.specs.Equal.{sameText}
-use Rattle.lists.proofs.Bools.{and-assoc}
 use Rattle.numbers.specs.Numbers.{numbers}
 use Rattle.names.specs.Name.{isName}
 use Rattle.clock.specs.Clock.{isReading}

@@ -4,10 +4,9 @@ use mathlib.Core.Path.{_≡_, refl, sym, _∙_}
 use mathlib.Core.Bool.{Bool, true, false, cond, not, _&&_, _||_}
 use mathlib.Core.List.{List, [], _∷_}
 use mathlib.Core.Option.{Option, none, some}
-use native.Mathlib.Omega.{arith}
 use lib.Dec.{eqb, leb}
 use Rattle.lists.specs.Bytes.{any}
-use Rattle.lists.proofs.Bools.{apart}
+use Rattle.lists.proofs.Bools.{apart, never}
 use Rattle.tlsa.specs.declared.Lookup.{Lookup}
 use Rattle.tlsa.specs.declared.Lookup.the-variants as L
 use Rattle.tlsa.specs.declared.Needs.{Needs}
@@ -87,12 +86,12 @@ unfolding readOf answerOf takenOf
 taken-is L.Secure lengths records d h = (refl, go (any short (recordsOf lengths records)) (recordsOf lengths records) h)
   where
     go : (t : Bool) (rs : List (List ℕ)) → cond t R.LookupFailed (takenOf rs) ≡ R.Taken d → needsOf rs ≡ d
-    go true rs k = absurd (let z : _≡_ {A = ℕ} 0 1 = cc in omega arith)
-    go false [] k = absurd (let z : _≡_ {A = ℕ} 0 1 = cc in omega arith)
+    go true rs k = never cc
+    go false [] k = never cc
     go false (r ∷ rs) k = cc
-taken-is L.Insecure lengths records d h = absurd (let z : _≡_ {A = ℕ} 0 1 = cc in omega arith)
-taken-is L.Absent lengths records d h = absurd (let z : _≡_ {A = ℕ} 0 1 = cc in omega arith)
-taken-is L.Failed lengths records d h = absurd (let z : _≡_ {A = ℕ} 0 1 = cc in omega arith)
+taken-is L.Insecure lengths records d h = never cc
+taken-is L.Absent lengths records d h = never cc
+taken-is L.Failed lengths records d h = never cc
 
 module _ (n : Numbers) (b : Base) (expanded L1 R1 L2 R2 : List ℕ) (k1 k2 : Bool) (a1 a2 : Answer) (p : Presented) where
   -- the facts of the call
@@ -180,13 +179,13 @@ when-given false a = refl
 -- an alias that is secure at every stage has an expanded name
 expanded-is : (a : Address) (e : List ℕ) → triesOf a ≡ ExpandedThenHost → cond (isAlias a) e [] ≡ e
 unfolding triesOf
-expanded-is A.NoAliasSecure e h = absurd (let z : _≡_ {A = ℕ} 0 1 = cc in omega arith)
-expanded-is A.NoAliasInsecure e h = absurd (let z : _≡_ {A = ℕ} 0 1 = cc in omega arith)
+expanded-is A.NoAliasSecure e h = never cc
+expanded-is A.NoAliasInsecure e h = never cc
 expanded-is A.AliasSecure e h = refl
 expanded-is A.AliasFirstStepSecure e h = refl
 expanded-is A.AliasFirstStepInsecure e h = refl
-expanded-is A.Failed e h = absurd (let z : _≡_ {A = ℕ} 0 1 = cc in omega arith)
-expanded-is A.NoAddress e h = absurd (let z : _≡_ {A = ℕ} 0 1 = cc in omega arith)
+expanded-is A.Failed e h = never cc
+expanded-is A.NoAddress e h = never cc
 
 -- the walk of a call
 pub walk-is : (a : Arguments) → walked (factsOf a) ≡ walkAnswer (a .numbers) (needsMtaSts (baseOf a)) (needsMtaSts (baseOf a) && not (isListed (baseOf a))) (a .nextHop) (a .host) (a .expanded) (a .lengths1) (a .records1) (a .lengths2) (a .records2) (presentedIn a)

@@ -9,8 +9,8 @@ use lib.Dec.{eqb, leb}
 use lib.ListN.{length, take, replicate}
 use lib.Seq.{take-all}
 use borrow.Author.Tests.{le-leb, ne-eqb, eqb-true, eqb-false}
-use Rattle.lists.specs.Bytes.{all, any}
-use Rattle.lists.proofs.Bools.{apart, and-right, and-intro}
+use Rattle.lists.specs.Bytes.{all, any, isBytes}
+use Rattle.lists.proofs.Bools.{apart, and-right, and-intro, or-left, or-right}
 use Rattle.lists.proofs.Agree.{bytes-self, text-self}
 use Rattle.numbers.specs.Pieces.{upTo}
 use Rattle.names.specs.Name.{isName, matchesName}
@@ -23,7 +23,6 @@ use Rattle.certificates.specs.Checks.{byType, compared, matchesCertificate, mat
 use Rattle.certificates.specs.declared.Origin.{Origin}
 use Rattle.certificates.specs.declared.Origin.the-variants.{SecureMx, InsecureMx, NoMx}
 use Rattle.certificates.proofs.Passing.{matches-3, matches-2, usable-usage-2}
-use Rattle.hosts.proofs.Logic.{isBytes, or-left, or-right}
 use Rattle.hosts.proofs.Values.{sized, okCertificate, OkPresented}
 
 -- d where it has n bytes, else n zeros

@@ -2,15 +2,16 @@
 use Prim.Native.Nat.{ℕ}
 use mathlib.Core.Path.{_≡_, refl, sym, _∙_, ap, subst}
 use mathlib.Core.Bool.{Bool, true, false, _&&_}
-use mathlib.Core.List.{List, map, flatten}
+use mathlib.Core.List.{List, flatten}
 use mathlib.Core.Option.{Option, none, some}
 use native.Mathlib.Omega.{arith}
 use lib.Dec.{T, leb}
-use lib.ListN.{length}
-use Rattle.lists.specs.Bytes.{all, within}
-use Rattle.lists.proofs.Bools.{and-left}
+use Rattle.lists.specs.Bytes.{all, within, isBytes}
+use Rattle.lists.proofs.Bools.{and-left, holds, by-true}
 use Rattle.numbers.specs.Numbers.{numbers, written}
+use Rattle.numbers.proofs.Written.{lengthsOf}
 use Rattle.tlsa.specs.Answer.{Answer, secure, insecure, absent, failed}
+use Rattle.certificates.proofs.Written.{nameOf, yesNoOf, yes-no-fits, bodiesOf, placesOf, flagsOf, digestsOf, flags-fit}
 use Rattle.hosts.specs.declared.HostAnswer.{HostAnswer}
 use Rattle.hosts.specs.Facts.{Base, Handshake, established, tlsa, first, second, starttls, handshake, certificates, Facts, Full, given, isGiven}
 use Rattle.hosts.specs.Facts as F
@@ -19,11 +20,10 @@ use Rattle.hosts.specs.Rules.{rules}
 use Rattle.hosts.specs.Arguments.{Arguments, offeredOf, outcomeOf, baseOf, presentedIn, factsOf}
 use Rattle.hosts.specs.Call.{codesFit, clocksFit, hostNamesFit, policyFits, answersFit, certificatesFit, walked, hostAnswer}
 use Rattle.hosts.specs.Demands.{isRefusal, isVerdict, IsPassed, IsFull, Keeps, orElse, fullOf}
-use Rattle.hosts.proofs.Logic.{holds, by-true, isBytes}
 use Rattle.hosts.proofs.Trees.{full, full-given, walk-full, each-verdict, AllOk, fill, fill-kept, fill-ok}
-use Rattle.hosts.proofs.Values.{commonBytes, Ok}
+use Rattle.hosts.proofs.Values.{Ok}
 use Rattle.hosts.proofs.Shape.{isQuestion, verdict-no-refusal, each-rules}
-use Rattle.hosts.proofs.Written.{answerCode, answerLengths, answerRecords, answer-read, answer-fits, answer-bytes, yesNoOf, yes-no-fits, bodies, places, flags, digestsOf, flags-fit, commonCode, common-fits, presented-read, presented-fits, presented-bytes}
+use Rattle.hosts.proofs.Written.{answerCode, answerLengths, answerRecords, answer-read, answer-fits, answer-bytes, commonCode, common-fits, presented-read, presented-fits, presented-bytes}
 use Rattle.hosts.proofs.Accepted.{Passes, walks, accepted-passes, slices, slice-bytes, numbersIn, isNumber, number-fits, given-ok}
 
 abbrev outcomeCode : Handshake → ℕ
@@ -56,14 +56,14 @@ fullArguments a f = record {
   records1 = answerRecords (f .tlsa1);
   lengths2 = answerLengths (f .tlsa2);
   records2 = answerRecords (f .tlsa2);
-  certificates = flatten (bodies (f .presented .certificates));
-  certificateLengths = written (map length (bodies (f .presented .certificates)));
-  keyPlaces = written (places (f .presented .certificates));
+  certificates = flatten (bodiesOf (f .presented .certificates));
+  certificateLengths = lengthsOf (bodiesOf (f .presented .certificates));
+  keyPlaces = written (placesOf (f .presented .certificates));
   digests = digestsOf (f .presented .certificates);
-  paths = written (flags (f .presented .certificates));
+  paths = written (flagsOf (f .presented .certificates));
   dnsIds = flatten (f .presented .dnsIds);
-  dnsIdLengths = written (map length (f .presented .dnsIds));
-  commonName = commonBytes (f .presented .commonName);
+  dnsIdLengths = lengthsOf (f .presented .dnsIds);
+  commonName = nameOf (f .presented .commonName);
 }
 
 offered-read : (b : Bool) → offeredOf (yesNoOf b) ≡ some b

@@ -12,7 +12,7 @@ use Rattle.hosts.specs.Facts.{Base, Handshake, established, failed, Plac
 use Rattle.hosts.specs.Tree.{Rules, reached}
 use Rattle.hosts.specs.Rules.{needsMtaSts, isListed, Taken, nothing, needsDane, shaken, connect, domainOf, seek, start, rules}
 use Rattle.hosts.specs.Demands.{isRising}
-use Rattle.hosts.proofs.Logic.{by-cond}
+use Rattle.lists.proofs.Bools.{by-cond}
 use Rattle.hosts.proofs.Reading.{by-answer}
 
 module _ (b : Base) (f : Full) where

@@ -1,17 +1,16 @@
 -- What C passes, from what is known of each number and of each byte. Assumes nothing.
 use Prim.Native.Nat.{ℕ, suc, _<_}
 use mathlib.Core.Path.{_≡_, refl}
-use mathlib.Core.Bool.{Bool, true}
+use mathlib.Core.Bool.{true}
 use mathlib.Core.List.{List, [], _∷_}
 use native.Mathlib.Omega.{arith}
 use lib.Dec.{leb}
 use lib.ListN.{length, getD}
 use borrow.Author.Tests.{le-leb}
-use Rattle.lists.specs.Bytes.{all}
-use Rattle.lists.proofs.Bools.{and-intro}
+use Rattle.lists.specs.Bytes.{all, isBytes}
+use Rattle.lists.proofs.Bools.{and-intro, by-true}
 use Rattle.hosts.specs.Arguments.{Arguments}
 use Rattle.hosts.specs.Demands.{IsPassed}
-use Rattle.hosts.proofs.Logic.{by-true, isBytes}
 use Rattle.hosts.proofs.Accepted.{slices, numbersIn, isNumber}
 
 -- a slice whose bytes are each below 256
@@ -22,15 +21,6 @@ bytes-by-place (x ∷ s) h = and-intro (leb x 255) (isBytes s) (le-leb x 255 (om
 
 pub number-below : (n : ℕ) → n < 18446744073709551616 → isNumber n ≡ true
 number-below n h = le-leb n 18446744073709551615 (omega arith)
-
--- a list whose elements each pass a test
-pub all-cons : {A : Type 0} (p : A → Bool) (x : A) (l : List A) → p x ≡ true → all p l ≡ true → all p (x ∷ l) ≡ true
-unfolding all
-all-cons p x l h k = and-intro (p x) (all p l) h k
-
-pub all-nil : {A : Type 0} (p : A → Bool) → all p [] ≡ true
-unfolding all
-all-nil p = refl
 
 pub is-passed : (a : Arguments) → all isNumber (numbersIn a) ≡ true → all isBytes (slices a) ≡ true → IsPassed a
 is-passed a n s = record { numbers = by-true (all isNumber (numbersIn a)) n; slices = by-true (all isBytes (slices a)) s }

@@ -4,6 +4,7 @@ use mathlib.Core.Path.{_≡_, refl}
 use mathlib.Core.Bool.{Bool, true, false, cond, _||_}
 use mathlib.Core.List.{List, [], _∷_}
 use Rattle.lists.specs.Bytes.{any}
+use Rattle.lists.proofs.Bools.{by-cond}
 use Rattle.tlsa.specs.declared.Needs.the-variants as N
 use Rattle.tlsa.specs.declared.Read.{Read}
 use Rattle.tlsa.specs.Record.{short, usable}
@@ -11,7 +12,6 @@ use Rattle.tlsa.specs.Answer.{Answer, secure, insecure, absent, failed, needsOf
 use Rattle.hosts.specs.Tree.{Rules, verdict}
 use Rattle.hosts.specs.Facts.{Base}
 use Rattle.hosts.specs.Rules.{isAuthentication, isTls, set, connect, heed}
-use Rattle.hosts.proofs.Logic.{by-cond}
 
 -- a set needs DANE authentication exactly where it has a usable record, and TLS where it has any
 pub authentication-is : (rs : List (List ℕ)) → isAuthentication (needsOf rs) ≡ any usable rs

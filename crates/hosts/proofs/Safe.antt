@@ -5,7 +5,7 @@ use mathlib.Core.Bool.{Bool, true, false, not, cond, _&&_, _||_}
 use mathlib.Core.List.{List, [], _∷_}
 use mathlib.Core.Logic.{_⊎_, inl, inr}
 use Rattle.lists.specs.Bytes.{within, any}
-use Rattle.lists.proofs.Bools.{apart}
+use Rattle.lists.proofs.Bools.{apart, by-cond}
 use Rattle.tlsa.specs.declared.Address.{Address}
 use Rattle.tlsa.specs.declared.Address.the-variants.{NoAliasSecure, NoAliasInsecure, AliasSecure, AliasFirstStepSecure, AliasFirstStepInsecure, Failed, NoAddress}
 use Rattle.tlsa.specs.Address.{TlsaName, expandedName, hostName, questionOf, names, namesToTry}
@@ -19,7 +19,6 @@ use Rattle.hosts.specs.Rules.{needsMtaSts, isListed, mtaStsPasses, Taken
 use Rattle.hosts.specs.Arguments.{Arguments, baseOf}
 use Rattle.hosts.specs.Call.{hostAnswer}
 use Rattle.hosts.specs.Demands.{IsFull, fullOf, answersAt, noneUsable, reachedAnswers}
-use Rattle.hosts.proofs.Logic.{by-cond}
 use Rattle.hosts.proofs.Reading.{authentication-is, tls-is, by-answer}
 use Rattle.hosts.proofs.FullSets.{full-number}
 use Rattle.hosts.proofs.Second.{quiet-connect}

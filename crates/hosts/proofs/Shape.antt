@@ -16,9 +16,8 @@ use Rattle.hosts.specs.Facts.{Base, Handshake, established, failed, Plac
 use Rattle.hosts.specs.Tree.{Rules, verdict, walk, answersRead, final}
 use Rattle.hosts.specs.Rules.{needsMtaSts, isListed, mtaStsPasses, Taken, nothing, set, needsDane, needsAnything, takenPasses, lastVerdict, shaken, connect, domainOf, seek, start, rules}
 use Rattle.hosts.specs.Demands.{isRefusal, isVerdict}
-use Rattle.lists.proofs.Bools.{apart, and-left, and-right}
+use Rattle.lists.proofs.Bools.{apart, and-left, and-right, by-cond, or-elim}
 use borrow.Author.Tests.{not-true, leb-true}
-use Rattle.hosts.proofs.Logic.{by-cond, or-elim}
 use Rattle.hosts.proofs.Trees.{Each, each-more, Comes, comes, Most, most-read}
 use Rattle.hosts.proofs.Reading.{by-answer}
 

@@ -6,7 +6,7 @@ use native.Mathlib.Omega.{arith}
 use lib.Dec.{T, eqb, leb}
 use borrow.Author.Tests.{leb-true, eqb-true}
 use Rattle.lists.specs.Bytes.{within}
-use Rattle.lists.proofs.Bools.{apart, and-right}
+use Rattle.lists.proofs.Bools.{apart, and-right, holds, by-cond, or-left, or-right, or-elim}
 use Rattle.hosts.specs.declared.HostAnswer.{HostAnswer}
 use Rattle.hosts.specs.Facts.{Facts, later}
 use Rattle.hosts.specs.Tree.{Outcome, final, missing, walk, answersRead}
@@ -14,7 +14,6 @@ use Rattle.hosts.specs.Rules.{rules}
 use Rattle.hosts.specs.Arguments.{Arguments, factsOf}
 use Rattle.hosts.specs.Call.{refused, told, walked, hostAnswer}
 use Rattle.hosts.specs.Demands.{isRefusal, isVerdict}
-use Rattle.hosts.proofs.Logic.{holds, by-cond, or-left, or-right, or-elim}
 use Rattle.hosts.proofs.Trees.{Comes, comes}
 use Rattle.hosts.proofs.Shape.{isQuestion, verdict-no-refusal, question-no-refusal, isEarly, each-rules, at-most-two, unread}
 use Rattle.hosts.proofs.Accepted.{by-answer-of}

@@ -5,11 +5,10 @@ use mathlib.Core.Bool.{Bool, true, false, cond}
 use mathlib.Core.List.{List, [], _∷_}
 use mathlib.Core.Option.{Option, none, some}
 use native.Mathlib.Omega.{arith}
-use Rattle.lists.proofs.Bools.{apart}
+use Rattle.lists.proofs.Bools.{apart, neither-left, neither-right, never}
 use Rattle.hosts.specs.Facts.{Base, Fact, tlsa, first, second, starttls, handshake, certificates, Value, Facts, Full, given, value, isGiven, later}
 use Rattle.hosts.specs.Tree.{Rules, verdict, ask, verdictOf, reached, Question, Outcome, final, missing, onGiven, walk, answersRead, isTlsa}
 use Rattle.hosts.specs.Demands.{orElse, firstMissing, namesRead}
-use Rattle.hosts.proofs.Logic.{neither-left, neither-right}
 
 -- a full set keeps the facts given
 abbrev pub KeptBy : Facts → Full → Type 0
@@ -69,7 +68,7 @@ walk-full t b f = go (walk t (full b f)) (says t (full b f) f (full-kept b f))
   where
     go : (o : Outcome) → Says o (firstMissing (full b f) (reached t f)) (verdictOf t f) → o ≡ final (verdictOf t f)
     go (final v) s = ap final (sym (s .0))
-    go (missing q) s = absurd (let z : _≡_ {A = ℕ} 0 1 = cc (s, no-missing b f (reached t f)) in omega arith)
+    go (missing q) s = never (cc (s, no-missing b f (reached t f)))
 
 -- filling up: what is given, else the value of a full set
 

@@ -3,16 +3,16 @@ use Prim.Native.Nat.{ℕ}
 use mathlib.Core.Path.{_≡_, refl}
 use mathlib.Core.Bool.{Bool, true, false, cond, _&&_}
 use mathlib.Core.List.{List, []}
-use mathlib.Core.Option.{Option, none, some}
+use mathlib.Core.Option.{none}
 use lib.Dec.{eqb}
 use lib.ListN.{length}
-use Rattle.lists.specs.Bytes.{all}
+use Rattle.lists.specs.Bytes.{all, isBytes}
 use Rattle.tlsa.specs.Answer.{Answer, secure, insecure, absent, failed, setFits}
 use Rattle.certificates.specs.Facts.{Certificate, Presented}
 use Rattle.certificates.specs.Limits.{keepsLimits}
+use Rattle.certificates.proofs.Written.{nameOf}
 use Rattle.hosts.specs.Facts.{established, first, second, Fact, tlsa, starttls, handshake, certificates, Value, Full}
 use Rattle.hosts.specs.Facts as F
-use Rattle.hosts.proofs.Logic.{isBytes}
 use Rattle.hosts.proofs.Trees.{AllOk}
 
 -- a TLSA answer: a set inside the limits, of bytes
@@ -30,15 +30,11 @@ sized n d = eqb (length d) n && isBytes d
 unfoldable pub okCertificate : Certificate → Bool
 okCertificate c = isBytes (c .bytes) && (sized 32 (c .sha256) && (sized 64 (c .sha512) && (sized 32 (c .keySha256) && sized 64 (c .keySha512))))
 
-abbrev pub commonBytes : Option (List ℕ) → List ℕ
-commonBytes none = []
-commonBytes (some n) = n
-
 pub record OkPresented (p : Presented) : Type 0 where
   pub limits : keepsLimits p ≡ true
   pub each : all okCertificate (p .certificates) ≡ true
   pub ids : all isBytes (p .dnsIds) ≡ true
-  pub name : isBytes (commonBytes (p .commonName)) ≡ true
+  pub name : isBytes (nameOf (p .commonName)) ≡ true
 
 abbrev pub Ok : (q : Fact) → Value q → Type 0
 Ok (tlsa p) a = OkAnswer a

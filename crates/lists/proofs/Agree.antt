@@ -10,6 +10,7 @@ use borrow.Author.Needs.{needs}
 use borrow.Author.Tests.{not-true, not-false, eq-eqb, eqb-true}
 use Rattle.lists.specs.Bytes.{lowerOf}
 use Rattle.lists.specs.Equal.{agree, sameByte, sameLetter, sameBytes, sameText}
+use Rattle.lists.proofs.Bools.{never}
 use Rattle.lists.proofs.Laws.{drop-next}
 
 agree-apart : (p : ℕ → ℕ → Bool) (a b : List ℕ) → (length a ≡ length b → ⊥) → agree p a b ≡ false
@@ -69,8 +70,8 @@ agree-self p self (x ∷ a) = rw (self x, agree-self p self a)
 pub same-bytes : (a b : List ℕ) → sameBytes a b ≡ true → a ≡ b
 unfolding agree sameByte
 same-bytes [] [] h = refl
-same-bytes [] (y ∷ b) h = absurd (let z : _≡_ {A = ℕ} 0 1 = cc in omega arith)
-same-bytes (x ∷ a) [] h = absurd (let z : _≡_ {A = ℕ} 0 1 = cc in omega arith)
+same-bytes [] (y ∷ b) h = never cc
+same-bytes (x ∷ a) [] h = never cc
 same-bytes (x ∷ a) (y ∷ b) h = go (same-bytes a b) (eqb x y) refl h
   where
     go : (sameBytes a b ≡ true → a ≡ b) → (t : Bool) → eqb x y ≡ t → (t && sameBytes a b) ≡ true → x ∷ a ≡ y ∷ b
@@ -78,7 +79,7 @@ same-bytes (x ∷ a) (y ∷ b) h = go (same-bytes a b) (eqb x y) refl h
         let u : x ≡ y = omega (arith, eqb-true x y e) in
         let v : a ≡ b = ih k in
         cc
-    go ih false e k = absurd (let z : _≡_ {A = ℕ} 0 1 = cc in omega arith)
+    go ih false e k = never cc
 
 pub bytes-self : (a : List ℕ) → sameBytes a a ≡ true
 unfolding sameByte
@@ -93,10 +94,10 @@ text-self a = agree-self sameLetter (λ x. eq-eqb (lowerOf x) (lowerOf x) refl) 
 pub agree-lengths : (p : ℕ → ℕ → Bool) (a b : List ℕ) → agree p a b ≡ true → length a ≡ length b
 unfolding agree
 agree-lengths p [] [] h = refl
-agree-lengths p [] (y ∷ b) h = absurd (let z : _≡_ {A = ℕ} 0 1 = cc in omega arith)
-agree-lengths p (x ∷ a) [] h = absurd (let z : _≡_ {A = ℕ} 0 1 = cc in omega arith)
+agree-lengths p [] (y ∷ b) h = never cc
+agree-lengths p (x ∷ a) [] h = never cc
 agree-lengths p (x ∷ a) (y ∷ b) h = go (agree-lengths p a b) (p x y) h
   where
     go : (agree p a b ≡ true → length a ≡ length b) → (t : Bool) → (t && agree p a b) ≡ true → length (x ∷ a) ≡ length (y ∷ b)
     go ih true k = let e : length a ≡ length b = ih k in omega arith
-    go ih false k = absurd (let z : _≡_ {A = ℕ} 0 1 = cc in omega arith)
+    go ih false k = never cc

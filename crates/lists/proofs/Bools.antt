@@ -1,15 +1,28 @@
--- Laws of `&&`, and of tests on every element of a list. Assumes nothing.
+-- Laws of tests: contradictions, and what `&&`, `||` and `cond` say. Assumes nothing.
 use Prim.Native.Nat.{ℕ}
-use mathlib.Core.Path.{_≡_, refl}
-use mathlib.Core.Bool.{Bool, true, false, _&&_}
-use mathlib.Core.List.{List, [], _∷_}
+use mathlib.Core.Path.{_≡_, refl, sym}
+use mathlib.Core.Bool.{Bool, true, false, cond, _&&_, _||_, or-true}
 use native.Mathlib.Omega.{arith}
-use Rattle.lists.specs.Bytes.{all}
+use lib.Dec.{T}
+
+-- all follows where two values that differ are the same: `never cc`
+pub never : {A : Type 0} → _≡_ {A = ℕ} 0 1 → A
+never e = absurd (omega arith)
 
 -- nothing is both true and false
 pub apart : {A : Type 0} → false ≡ true → A
-apart e = absurd (let z : _≡_ {A = ℕ} 0 1 = cc in omega arith)
+apart e = never cc
 
+-- a test that holds is true, and the other way round
+pub holds : (b : Bool) → T b → b ≡ true
+holds true t = refl
+holds false t = absurd t
+
+pub by-true : (b : Bool) → b ≡ true → T b
+by-true true e = tt
+by-true false e = apart e
+
+-- both of two tests
 pub and-left : (a b : Bool) → (a && b) ≡ true → a ≡ true
 and-left true b h = refl
 and-left false b h = h
@@ -24,25 +37,36 @@ and-both a b h = (and-left a b h, and-right a b h)
 pub and-intro : (a b : Bool) → a ≡ true → b ≡ true → (a && b) ≡ true
 and-intro a b p q = rw (p, q)
 
-pub and-assoc : (a b c : Bool) → ((a && b) && c) ≡ (a && (b && c))
-and-assoc true b c = refl
-and-assoc false b c = refl
-
 pub and-swap : (a b c : Bool) → (a && (b && c)) ≡ (b && (a && c))
 and-swap true b c = refl
 and-swap false true c = refl
 and-swap false false c = refl
 
--- what each element that passes one test passes too
-pub all-more : {A : Type 0} (p q : A → Bool) → ((x : A) → p x ≡ true → q x ≡ true) → (xs : List A) → all p xs ≡ true → all q xs ≡ true
-unfolding all
-all-more p q f [] h = refl
-all-more p q f (x ∷ xs) h = and-intro (q x) (all q xs) (f x (and-left (p x) (all p xs) h)) (all-more p q f xs (and-right (p x) (all p xs) h))
+-- one of two tests
+pub or-left : (a b : Bool) → a ≡ true → (a || b) ≡ true
+or-left a b e = rw e
 
--- what each element that passes two tests passes too
-pub all-both : {A : Type 0} (p q r : A → Bool) → ((x : A) → p x ≡ true → q x ≡ true → r x ≡ true) → (xs : List A) → all p xs ≡ true → all q xs ≡ true → all r xs ≡ true
-unfolding all
-all-both p q r f [] h k = refl
-all-both p q r f (x ∷ xs) h k =
-    and-intro (r x) (all r xs) (f x (and-left (p x) (all p xs) h) (and-left (q x) (all q xs) k))
-    (all-both p q r f xs (and-right (p x) (all p xs) h) (and-right (q x) (all q xs) k))
+pub or-right : (a b : Bool) → b ≡ true → (a || b) ≡ true
+or-right a b e = rw e (or-true a)
+
+pub or-elim : {C : Type 0} (a b : Bool) → (a ≡ true → C) → (b ≡ true → C) → (a || b) ≡ true → C
+or-elim true b f g t = f refl
+or-elim false b f g t = g t
+
+pub or-swap : (a b c : Bool) → (a || (b || c)) ≡ (b || (a || c))
+or-swap true b c = sym (or-true b)
+or-swap false b c = refl
+
+-- neither of two tests
+pub neither-left : (a b : Bool) → (a || b) ≡ false → a ≡ false
+neither-left false b e = refl
+neither-left true b e = e
+
+pub neither-right : (a b : Bool) → (a || b) ≡ false → b ≡ false
+neither-right false b e = e
+neither-right true b e = apart (sym e)
+
+-- a choice has a property where each side has it
+pub by-cond : {A : Type 0} (P : A → Type 0) (x : Bool) {t u : A} → (x ≡ true → P t) → (x ≡ false → P u) → P (cond x t u)
+by-cond P true p q = p refl
+by-cond P false p q = q refl

@@ -1,6 +1,7 @@
 pub mod Bools
 pub mod Laws
 pub mod All
+pub mod Any
 pub mod Agree
 pub mod Split
 pub mod Every

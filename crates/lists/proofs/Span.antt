@@ -1,17 +1,19 @@
--- A loop that goes past the bytes that pass a test p: the turn, and the two ends. r is what the code's call of p gave. Assumes nothing.
-use Prim.Native.Nat.{ℕ, zero, suc, _+_, _-_, _<_, _≤_}
+-- The front of a list. A loop that goes past the bytes that pass a test p: the turn, and the two ends, where r is what the code's call of p gave; laws of
+-- `spanOf` and of `begins`. Assumes nothing.
+use Prim.Native.Nat.{ℕ, zero, suc, _+_, _<_, _≤_}
 use mathlib.Core.Path.{_≡_, refl, sym, ap, _∙_}
 use mathlib.Core.Bool.{Bool, true, false, cond, _&&_}
-use mathlib.Core.List.{List, [], _∷_}
+use mathlib.Core.List.{List, [], _∷_, _++_}
 use native.Mathlib.Omega.{arith}
 use borrow.Author.Needs.{needs}
-use borrow.Author.Tests.{not-true, not-false, eqb-true}
-use lib.Dec.{eqb}
+use borrow.Author.Tests.{not-true, not-false, eq-eqb, ne-eqb, eqb-true, lt-leb, le-leb}
+use lib.Dec.{eqb, leb}
 use lib.ListN.{length, getD, take, drop, length-drop, drop-of-length-le}
 use Rattle.lists.specs.Bytes.{all}
-use Rattle.lists.specs.Span.{spanOf}
+use Rattle.lists.specs.Span.{spanOf, begins}
 use Rattle.lists.specs.Split.{indexOf}
-use Rattle.lists.proofs.Laws.{drop-next}
+use Rattle.lists.proofs.Bools.{never, and-both, and-left, and-right}
+use Rattle.lists.proofs.Laws.{drop-next, leb-suc}
 
 module _ (p : ℕ → Bool) (s : List ℕ) (i : ℕ) where
   span-here : i < length s → (r : Bool) → r ≡ p (getD s i 0) → r ≡ true → spanOf p (drop i s) ≡ suc (spanOf p (drop (i + 1) s))
@@ -51,15 +53,21 @@ span-le p (x ∷ s) = go (span-le p s) (p x)
 pub span-within : (p : ℕ → Bool) (s : List ℕ) (from e : ℕ) → e ≡ from + spanOf p (drop from s) → from ≤ length s → e ≤ length s
 span-within p s from e q h = omega (arith, span-le p (drop from s), length-drop from s)
 
+-- the first k elements pass a test exactly where the span reaches so far
+pub span-reaches : (p : ℕ → Bool) (u : List ℕ) (k : ℕ) → k ≤ length u → leb k (spanOf p u) ≡ all p (take k u)
+unfolding spanOf all
+span-reaches p [] zero h = refl
+span-reaches p [] (suc k) h = absurd (omega arith)
+span-reaches p (x ∷ u) zero h = le-leb 0 (cond (p x) (suc (spanOf p u)) 0) (omega arith)
+span-reaches p (x ∷ u) (suc k) h = go (span-reaches p u k (omega arith)) (p x)
+  where
+    go : leb k (spanOf p u) ≡ all p (take k u) → (t : Bool) → leb (suc k) (cond t (suc (spanOf p u)) 0) ≡ (t && all p (take k u))
+    go ih true = leb-suc k (spanOf p u) ∙ ih
+    go ih false = lt-leb (suc k) 0 (omega arith)
+
 -- the bytes of the span pass the test
 pub span-all : (p : ℕ → Bool) (s : List ℕ) → all p (take (spanOf p s) s) ≡ true
-unfolding spanOf all
-span-all p [] = refl
-span-all p (x ∷ s) = go (span-all p s) (p x) refl
-  where
-    go : all p (take (spanOf p s) s) ≡ true → (t : Bool) → p x ≡ t → all p (take (cond t (suc (spanOf p s)) 0) (x ∷ s)) ≡ true
-    go ih true e = rw (e, ih)
-    go ih false e = refl
+span-all p s = sym (span-reaches p s (spanOf p s) (span-le p s)) ∙ le-leb (spanOf p s) (spanOf p s) (omega arith)
 
 -- the byte after the span does not pass it
 pub span-stops : (p : ℕ → Bool) (s : List ℕ) → spanOf p s < length s → p (getD s (spanOf p s) 0) ≡ false
@@ -82,15 +90,45 @@ span-short p (x ∷ s) (suc n) g h = go (span-short p s n) (p x) refl g h
     go ih true e g h = rw (e, ih (omega arith) (omega arith))
     go ih false e g h = rw e
 
--- a byte that does not pass the test comes after the span
-pub span-before : (p : ℕ → Bool) (b : ℕ) (s : List ℕ) → p b ≡ false → spanOf p s ≤ indexOf b s
-unfolding spanOf indexOf
-span-before p b [] h = omega arith
-span-before p b (x ∷ s) h = go (span-before p b s h) (p x) (eqb x b) refl refl
+-- a byte that does not pass the test is found after the span
+pub span-index : (p : ℕ → Bool) (b : ℕ) → p b ≡ false → (s : List ℕ) → indexOf b s ≡ spanOf p s + indexOf b (drop (spanOf p s) s)
+unfolding indexOf spanOf
+span-index p b n [] = refl
+span-index p b n (x ∷ s) = go (span-index p b n s) (p x) refl
   where
-    go : spanOf p s ≤ indexOf b s → (t u : Bool) → p x ≡ t → eqb x b ≡ u → cond t (suc (spanOf p s)) 0 ≤ cond u 0 (suc (indexOf b s))
-    go ih false u e f = omega arith
-    go ih true false e f = omega arith
-    go ih true true e f =
-        let k : x ≡ b = omega (arith, eqb-true x b f) in
-        absurd (let z : _≡_ {A = ℕ} 0 1 = cc in omega arith)
+    go : indexOf b s ≡ spanOf p s + indexOf b (drop (spanOf p s) s) → (t : Bool) → p x ≡ t → cond (eqb x b) 0 (suc (indexOf b s)) ≡ cond t (suc (spanOf p s)) 0 + indexOf b (drop (cond t (suc (spanOf p s)) 0) (x ∷ s))
+    go ih true e = rw (ne-eqb x b (λ z. never cc)) (omega arith)
+    go ih false e = omega arith
+
+pub span-before : (p : ℕ → Bool) (b : ℕ) (s : List ℕ) → p b ≡ false → spanOf p s ≤ indexOf b s
+span-before p b s h = omega (arith, span-index p b h s)
+
+-- the span of what passes, and of what follows it
+pub span-append : (p : ℕ → Bool) (a b : List ℕ) → all p a ≡ true → spanOf p (a ++ b) ≡ length a + spanOf p b
+unfolding all spanOf
+span-append p [] b h = omega arith
+span-append p (x ∷ a) b h =
+    let k = and-both (p x) (all p a) h in
+    rw (k .0, span-append p a b (k .1)) (omega arith)
+
+-- a list that begins with p and q begins with p
+pub begins-front : (p q s : List ℕ) → begins (p ++ q) s ≡ true → begins p s ≡ true
+unfolding begins
+begins-front [] q s h = refl
+begins-front (x ∷ p) q [] h = h
+begins-front (x ∷ p) q (y ∷ s) h = rw (and-left (eqb y x) (begins (p ++ q) s) h) (begins-front p q s (and-right (eqb y x) (begins (p ++ q) s) h))
+
+-- a list begins with p exactly where it is p and something more
+pub begins-whole : (p s : List ℕ) → begins p s ≡ true → s ≡ p ++ drop (length p) s
+unfolding begins
+begins-whole [] s h = refl
+begins-whole (x ∷ p) [] h = never cc
+begins-whole (x ∷ p) (y ∷ s) h =
+    let e : y ≡ x = omega (arith, eqb-true y x (and-left (eqb y x) (begins p s) h)) in
+    let i : s ≡ p ++ drop (length p) s = begins-whole p s (and-right (eqb y x) (begins p s) h) in
+    rw e (ap (λ (r : List ℕ). x ∷ r) i)
+
+pub begins-joined : (p s : List ℕ) → begins p (p ++ s) ≡ true
+unfolding begins
+begins-joined [] s = refl
+begins-joined (x ∷ p) s = rw (eq-eqb x x refl) (begins-joined p s)

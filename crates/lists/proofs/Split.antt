@@ -4,12 +4,13 @@ use mathlib.Core.Path.{_≡_, refl, sym, ap, _∙_}
 use mathlib.Core.Bool.{Bool, true, false, cond, not, _&&_}
 use mathlib.Core.List.{List, [], _∷_, _++_}
 use native.Mathlib.Omega.{arith}
-use borrow.Author.Tests.{eq-eqb, ne-eqb, eqb-true}
+use borrow.Author.Tests.{eq-eqb, ne-eqb, eqb-true, not-true}
 use borrow.Author.Needs.{needs}
 use lib.Dec.{eqb}
-use lib.ListN.{length, getD, drop, take, drop-of-length-le}
+use lib.ListN.{length, getD, drop, take, drop-of-length-le, take-append-drop}
 use Rattle.lists.specs.Bytes.{all}
 use Rattle.lists.specs.Split.{indexOf, split, toFirst, lacks, join}
+use Rattle.lists.proofs.Bools.{never, and-both}
 use Rattle.lists.proofs.Laws.{drop-next}
 
 pub indexOf-here : (s : List ℕ) (b i : ℕ) → i < length s → getD s i 0 ≡ b → indexOf b (drop i s) ≡ 0
@@ -115,7 +116,7 @@ split-after b [] m h = rw (eq-eqb b b refl)
 split-after b (x ∷ l) m h = go (split-after b l m) (eqb x b) h
   where
     go : (lacks b l ≡ true → split b (l ++ (b ∷ m)) ≡ l ∷ split b m) → (t : Bool) → (not t && lacks b l) ≡ true → cond t ([] ∷ split b (l ++ (b ∷ m))) (toFirst x (split b (l ++ (b ∷ m)))) ≡ (x ∷ l) ∷ split b m
-    go ih true k = absurd (let z : _≡_ {A = ℕ} 0 1 = cc in omega arith)
+    go ih true k = never cc
     go ih false k = rw (ih k)
 
 pub index-after : (b : ℕ) (l m : List ℕ) → lacks b l ≡ true → indexOf b (l ++ (b ∷ m)) ≡ length l
@@ -124,7 +125,7 @@ index-after b [] m h = rw (eq-eqb b b refl)
 index-after b (x ∷ l) m h = go (index-after b l m) (eqb x b) h
   where
     go : (lacks b l ≡ true → indexOf b (l ++ (b ∷ m)) ≡ length l) → (t : Bool) → (not t && lacks b l) ≡ true → cond t 0 (suc (indexOf b (l ++ (b ∷ m)))) ≡ suc (length l)
-    go ih true k = absurd (let z : _≡_ {A = ℕ} 0 1 = cc in omega arith)
+    go ih true k = never cc
     go ih false k = rw (ih k)
 
 -- at its index the byte stands, and not before it
@@ -146,3 +147,32 @@ index-most b (x ∷ s) (suc i) h e = go (index-most b s i (omega arith) e) (eqb 
     go : indexOf b s ≤ i → (t : Bool) → cond t 0 (suc (indexOf b s)) ≤ suc i
     go ih true = omega arith
     go ih false = omega arith
+
+-- where a byte stands in two lists one after the other: in the first, or else in the second
+pub index-append : (b : ℕ) (l e : List ℕ) → indexOf b l < length l → indexOf b (l ++ e) ≡ indexOf b l
+unfolding indexOf
+index-append b [] e h = absurd (omega arith)
+index-append b (x ∷ l) e h = go (index-append b l e) (eqb x b) h
+  where
+    go : (indexOf b l < length l → indexOf b (l ++ e) ≡ indexOf b l) → (t : Bool) → cond t 0 (suc (indexOf b l)) < suc (length l) → cond t 0 (suc (indexOf b (l ++ e))) ≡ cond t 0 (suc (indexOf b l))
+    go ih true k = refl
+    go ih false k = rw (ih (omega arith))
+
+pub index-beyond : (b : ℕ) (l e : List ℕ) → length l ≤ indexOf b l → indexOf b (l ++ e) ≡ length l + indexOf b e
+unfolding indexOf
+index-beyond b [] e h = omega arith
+index-beyond b (x ∷ l) e h = go (index-beyond b l e) (eqb x b) h
+  where
+    go : (length l ≤ indexOf b l → indexOf b (l ++ e) ≡ length l + indexOf b e) → (t : Bool) → suc (length l) ≤ cond t 0 (suc (indexOf b l)) → cond t 0 (suc (indexOf b (l ++ e))) ≡ suc (length l) + indexOf b e
+    go ih true k = absurd (omega arith)
+    go ih false k = omega (arith, ih (omega arith))
+
+pub index-lacks : (b : ℕ) (e : List ℕ) → lacks b e ≡ true → indexOf b e ≡ length e
+unfolding indexOf all
+index-lacks b [] h = refl
+index-lacks b (x ∷ e) h =
+    let k = and-both (not (eqb x b)) (lacks b e) h in
+    rw (not-true (eqb x b) (k .0), index-lacks b e (k .1))
+
+pub index-take : (b : ℕ) (k : ℕ) (u : List ℕ) → indexOf b (take k u) < length (take k u) → indexOf b u ≡ indexOf b (take k u)
+index-take b k u h = ap (indexOf b) (sym (take-append-drop k u)) ∙ index-append b (take k u) (drop k u) h

@@ -1,7 +1,7 @@
 -- Lists of bytes compared as numbers, eight bytes at a time: the laws, and the turn of a loop. Assumes nothing.
 use Prim.Native.Nat.{ℕ, zero, suc, _+_, _*_, _<_, _≤_}
 use mathlib.Core.Path.{_≡_, refl, sym, _∙_}
-use mathlib.Core.Bool.{Bool, true, false, _&&_}
+use mathlib.Core.Bool.{Bool, true, false, _&&_, and-assoc}
 use mathlib.Core.List.{List, [], _∷_}
 use native.Mathlib.Nat.{add-zero}
 use native.Mathlib.Omega.{arith}
@@ -14,7 +14,7 @@ use Rattle.lists.specs.Bytes.{all, lowerOf}
 use Rattle.lists.specs.Equal.{agree, sameByte, sameLetter}
 use Rattle.lists.specs.Words.{isByte, numberOf, eightAt}
 use Rattle.lists.proofs.Agree.{agree-length, letter-same}
-use Rattle.lists.proofs.Bools.{apart, and-left, and-right, and-assoc}
+use Rattle.lists.proofs.Bools.{apart, and-left, and-right}
 
 -- the first eight of a list
 front-eight : (u : List ℕ) → 8 ≤ length u → take 8 u ≡ getD u 0 0 ∷ getD u 1 0 ∷ getD u 2 0 ∷ getD u 3 0 ∷ getD u 4 0 ∷ getD u 5 0 ∷ getD u 6 0 ∷ getD u 7 0 ∷ []

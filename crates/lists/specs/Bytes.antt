@@ -19,6 +19,10 @@ unfoldable pub any : {A : Type 0} → (A → Bool) → List A → Bool
 any p [] = false
 any p (x ∷ xs) = p x || any p xs
 
+-- bytes: every number is below 256
+abbrev pub isBytes : List ℕ → Bool
+isBytes s = all (λ (b : ℕ). leb b 255) s
+
 -- the small letter of an ASCII capital, and any other byte as it is
 unfoldable pub lowerOf : ℕ → ℕ
 lowerOf b = cond (within (code "A") (code "Z") b) (b + 32) b

@@ -15,7 +15,8 @@ use Rattle.messages.specs.declared.MxLookup.the-variants.{Answered, Fail
 use Rattle.messages.specs.Hosts.{Host, isPreference, isNextHost, isHostVerdict, isHostList, hostsFrom, hostsOf, inOrder, noHost, answerOf, decided, messageAnswer, hostsAnswer, listsAnswer, nextHost}
 use Rattle.messages.specs.Order.{comesBefore, isOrdered, hostAt, Decides, isDecision, Outcome, isMessageAnswer}
 use Rattle.messages.specs.Order.Outcome.{refused, none, one}
-use Rattle.lists.proofs.Bools.{apart, and-left, and-right, all-more}
+use Rattle.lists.proofs.Bools.{apart, and-left, and-right}
+use Rattle.lists.proofs.All.{all-more}
 use Rattle.messages.proofs.Order.{before-fails, before-turn, before-self, all-inOrder, ordered, all-hosts, each-host}
 
 -- a host's verdict passes a test

@@ -17,7 +17,8 @@ use Rattle.messages.specs.declared.Decider.the-variants.{Nobody}
 use Rattle.messages.specs.Hosts.{Host, isPreference, isNextHost, isHostVerdict, isHostList, hostsFrom, hostsOf, insert, inOrder, noHost, answerOf, decided, messageAnswer}
 use Rattle.messages.specs.Order.{comesBefore, isOrdered}
 use Rattle.messages.specs.Search.{decider, before, withHost, deciderOf, decidedBy}
-use Rattle.lists.proofs.Bools.{and-left, and-right, and-intro, all-more}
+use Rattle.lists.proofs.Bools.{and-left, and-right, and-intro}
+use Rattle.lists.proofs.All.{all-more}
 use Rattle.lists.proofs.Laws.{drop-next}
 use Rattle.messages.proofs.Arrays.{all-fails, no-verdict}
 use Rattle.messages.proofs.Order.{before-facts, hosts-ordered, hosts-next, hosts-end}

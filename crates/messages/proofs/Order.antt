@@ -13,7 +13,8 @@ use Rattle.lists.specs.Bytes.{all}
 use Rattle.lists.proofs.Laws.{drop-next}
 use Rattle.messages.specs.Hosts.{Host, hostsFrom, hostsOf, insert, inOrder}
 use Rattle.messages.specs.Order.{comesBefore, isOrdered, howMany, hostAt}
-use Rattle.lists.proofs.Bools.{apart, and-left, and-right, and-intro, and-swap, all-both}
+use Rattle.lists.proofs.Bools.{apart, and-left, and-right, and-intro, and-swap}
+use Rattle.lists.proofs.All.{all-both}
 
 -- which of two hosts comes first
 pub before-lower : (x y : Host) → x .preference < y .preference → comesBefore x y ≡ true

@@ -9,7 +9,8 @@ use borrow.Author.Tests.{eq-eqb, eqb-true}
 use Rattle.lists.specs.Bytes.{all}
 use Rattle.messages.specs.Hosts.{Host, hostsOf, inOrder}
 use Rattle.messages.specs.Order.{comesBefore, isOrdered, howMany}
-use Rattle.lists.proofs.Bools.{apart, and-left, and-right, all-more}
+use Rattle.lists.proofs.Bools.{apart, and-left, and-right}
+use Rattle.lists.proofs.All.{all-more}
 use Rattle.messages.proofs.Order.{before-turn, same-hosts, ordered}
 
 -- the same host

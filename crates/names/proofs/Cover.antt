@@ -1,19 +1,18 @@
 -- A text that equals a name ignoring ASCII case is a name; so `covers` tells of a name what `matchesName` says. Assumes nothing.
 use Prim.Native.Nat.{ℕ, suc, _+_, _-_, _<_, _≤_}
 use mathlib.Core.Path.{_≡_, refl, sym, ap, _∙_}
-use mathlib.Core.Bool.{Bool, true, false, cond, not, _&&_, _||_, and-false, and-true}
+use mathlib.Core.Bool.{Bool, true, false, cond, _&&_, _||_, and-false, and-assoc}
 use mathlib.Core.List.{List, [], _∷_, map}
 use native.Mathlib.Omega.{arith}
 use lib.Dec.{eqb, leb, ltb}
 use lib.ListN.{length, getD, take, drop, length-map, List·getD-map, drop-of-length-le, length-drop}
-use borrow.Author.Needs.{needs}
-use borrow.Author.Tests.{not-true, not-false, eq-eqb, ne-eqb, lt-ltb, le-ltb, ltb-true, ltb-false, leb-true, le-leb, lt-leb, eqb-true}
+use borrow.Author.Tests.{ne-eqb, ltb-true, ltb-false, leb-true, le-leb, lt-leb, eqb-true}
 use Rattle.lists.specs.Bytes.{within, all, lowerOf}
 use Rattle.lists.specs.Equal.{agree, sameLetter, sameText}
 use Rattle.lists.specs.Split.{indexOf, split, toFirst}
-use Rattle.lists.proofs.Bools.{and-left, and-right, and-assoc}
-use Rattle.lists.proofs.Laws.{take-rest, bounds, tests}
-use Rattle.lists.proofs.Split.{split-first, indexOf-le}
+use Rattle.lists.proofs.Bools.{and-left, and-right, never}
+use Rattle.lists.proofs.Laws.{within-true}
+use Rattle.lists.proofs.Split.{split-first}
 use Rattle.names.specs.Name.{labelByte, isLabel, isName, isStarred, isWildcard, afterFirst, matchesName}
 use Rattle.names.specs.Scan.{coversName}
 
@@ -25,8 +24,8 @@ lowered s = map lowerOf s
 same-lowered : (a b : List ℕ) → sameText a b ≡ true → lowered a ≡ lowered b
 unfolding agree sameLetter
 same-lowered [] [] h = refl
-same-lowered [] (y ∷ b) h = absurd (let z : _≡_ {A = ℕ} 0 1 = cc in omega arith)
-same-lowered (x ∷ a) [] h = absurd (let z : _≡_ {A = ℕ} 0 1 = cc in omega arith)
+same-lowered [] (y ∷ b) h = never cc
+same-lowered (x ∷ a) [] h = never cc
 same-lowered (x ∷ a) (y ∷ b) h = go (same-lowered a b) (eqb (lowerOf x) (lowerOf y)) refl h
   where
     go : (sameText a b ≡ true → lowered a ≡ lowered b) → (t : Bool) → eqb (lowerOf x) (lowerOf y) ≡ t → (t && sameText a b) ≡ true → lowered (x ∷ a) ≡ lowered (y ∷ b)
@@ -34,24 +33,16 @@ same-lowered (x ∷ a) (y ∷ b) h = go (same-lowered a b) (eqb (lowerOf x) (low
         let u : lowerOf x ≡ lowerOf y = eqb-true (lowerOf x) (lowerOf y) e in
         let v : lowered a ≡ lowered b = ih k in
         cc
-    go ih false e k = absurd (let z : _≡_ {A = ℕ} 0 1 = cc in omega arith)
+    go ih false e k = never cc
 
--- a capital is between the signs and the small letters, so its small letter is of a label as well, and no hyphen or dot
-capital : (x : ℕ) → within 65 90 x ≡ true → (65 ≤ x) × (x ≤ 90)
-capital x h = go (leb 65 x) (leb x 90) refl refl h
-  where
-    go : (t u : Bool) → leb 65 x ≡ t → leb x 90 ≡ u → (t && u) ≡ true → (65 ≤ x) × (x ≤ 90)
-    go true true p q k = (leb-true 65 x p, leb-true x 90 q)
-    go true false p q k = absurd (let z : _≡_ {A = ℕ} 0 1 = cc in omega arith)
-    go false u p q k = absurd (let z : _≡_ {A = ℕ} 0 1 = cc in omega arith)
-
--- a test that holds equally of a capital and its small letter does not see case
+-- a test that holds equally of a capital and its small letter does not see case. A capital is between the signs and the small letters, so its small letter is of
+-- a label as well, and no hyphen or dot
 unseen : (p : ℕ → Bool) → ((x : ℕ) → 65 ≤ x → x ≤ 90 → p (x + 32) ≡ p x) → (x : ℕ) → p (lowerOf x) ≡ p x
 unfolding lowerOf
 unseen p same x = go (within 65 90 x) refl
   where
     go : (t : Bool) → within 65 90 x ≡ t → p (cond t (x + 32) x) ≡ p x
-    go true e = same x (capital x e .0) (capital x e .1)
+    go true e = same x (within-true 65 90 x e .0) (within-true 65 90 x e .1)
     go false e = refl
 
 letter-byte : (x : ℕ) → 65 ≤ x → x ≤ 90 → labelByte (x + 32) ≡ labelByte x
@@ -132,7 +123,7 @@ name-after n h k = go (afterFirst n) refl
     rest = and-right (isLabel (take (indexOf 46 n) n)) (all isLabel (split 46 (afterFirst n))) (rw first at (name-labels n h))
 
     go : (m : List ℕ) → afterFirst n ≡ m → (within 1 253 (length m) && all isLabel (split 46 m)) ≡ true
-    go [] e = absurd (let x : all isLabel (split 46 []) ≡ true = rw e at rest in let z : _≡_ {A = ℕ} 0 1 = cc (x, empty-piece) in omega arith)
+    go [] e = absurd (let x : all isLabel (split 46 []) ≡ true = rw e at rest in never (cc (x, empty-piece)))
     go (x ∷ m) e =
         let l : length (x ∷ m) ≤ 253 = omega (arith, name-short n h, ap length e, length-drop (indexOf 46 n + 1) n) in
         let r : all isLabel (split 46 (x ∷ m)) ≡ true = rw e at rest in

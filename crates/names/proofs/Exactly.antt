@@ -3,23 +3,25 @@ use Prim.Native.Char.{code}
 use Prim.Native.Nat.{ℕ, suc, _+_, _-_, _<_, _≤_}
 use mathlib.Core.Path.{_≡_, refl, sym, ap, _∙_}
 use mathlib.Core.Bool.{Bool, true, false, not, _&&_, _||_, and-false}
-use mathlib.Core.List.{List, [], _∷_, _++_}
+use mathlib.Core.List.{List, _∷_, _++_}
 use mathlib.Core.Logic.{_↔_}
 use native.Mathlib.Omega.{arith}
-use lib.Dec.{eqb, leb, ltb}
+use lib.Dec.{eqb, ltb}
 use lib.ListN.{length, getD, take, drop, length-append, take-append-drop, drop-of-length-le}
 use lib.Seq.{drop-append-add}
-use borrow.Author.Tests.{ltb-true, ltb-false, leb-true, le-leb, eqb-true}
+use borrow.Author.Tests.{ltb-true, ltb-false, le-leb}
 use Rattle.lists.specs.Bytes.{within, all}
 use Rattle.lists.specs.Equal.{sameText}
 use Rattle.lists.specs.Split.{indexOf, split, lacks}
 use Rattle.lists.specs.Text.{text}
-use Rattle.lists.proofs.Bools.{and-left, and-right}
+use Rattle.lists.proofs.Bools.{and-left, and-right, never}
 use Rattle.lists.proofs.Laws.{drop-next}
 use Rattle.lists.proofs.Split.{split-first, split-after, index-after, index-there}
+use Rattle.lists.proofs.All.{all-lacks}
 use Rattle.names.specs.Name.{labelByte, isLabel, isName, isStarred, isWildcard, afterFirst, matchesName}
-use Rattle.names.proofs.Cover.{name-same, name-short, name-labels, nothing-no-name, same-nothing}
+use Rattle.names.proofs.Cover.{name-same, name-short, name-labels, same-nothing}
 use Rattle.names.proofs.Match.{starred-no-name}
+use Rattle.names.proofs.Name.{dot-outside}
 
 -- a name begins with no star
 name-no-star : (p : List ℕ) → isName p ≡ true → isStarred p ≡ false
@@ -50,20 +52,6 @@ pub record OneLabelBefore (N n : List ℕ) : Type 0 where
 abbrev pub wildcard : List ℕ → List ℕ
 wildcard N = text "*." ++ N
 
-dot-no-byte : labelByte 46 ≡ false
-unfolding labelByte
-dot-no-byte = refl
-
--- a label has no dot
-no-dots : (l : List ℕ) → all labelByte l ≡ true → lacks 46 l ≡ true
-unfolding all
-no-dots [] h = refl
-no-dots (x ∷ l) h = go (no-dots l (and-right (labelByte x) (all labelByte l) h)) (eqb x 46) refl
-  where
-    go : lacks 46 l ≡ true → (t : Bool) → eqb x 46 ≡ t → (not t && lacks 46 l) ≡ true
-    go ih true e = sym dot-no-byte ∙ ap labelByte (sym (eqb-true x 46 e)) ∙ and-left (labelByte x) (all labelByte l) h
-    go ih false e = ih
-
 label-bytes : (l : List ℕ) → isLabel l ≡ true → all labelByte l ≡ true
 unfolding isLabel
 label-bytes l h = and-right (within 1 63 (length l) && not (eqb (getD l 0 0) 45) && not (eqb (getD l (length l - 1) 0) 45)) (all labelByte l) h
@@ -71,7 +59,7 @@ label-bytes l h = and-right (within 1 63 (length l) && not (eqb (getD l 0 0) 45)
 -- a label, a dot and a name are a name, where they have 253 bytes at most, and the name follows the first dot
 module _ (l m : List ℕ) (is-label : isLabel l ≡ true) where
   no-dot : lacks 46 l ≡ true
-  no-dot = no-dots l (label-bytes l is-label)
+  no-dot = all-lacks labelByte 46 dot-outside l (label-bytes l is-label)
 
   after-label : afterFirst (l ++ (46 ∷ m)) ≡ m
   after-label = rw (index-after 46 l m no-dot, drop-append-add l (46 ∷ m) 1)
@@ -106,7 +94,7 @@ module _ (N n : List ℕ) (named : isName N ≡ true) where
       go true e = ltb-true (indexOf 46 n) (length n) e
       go false e =
           let l : length n ≤ indexOf 46 n + 1 = omega (arith, ltb-false (indexOf 46 n) (length n) e) in
-          absurd (let z : _≡_ {A = ℕ} 0 1 = cc (nothing l) in omega arith)
+          never (cc (nothing l))
 
   taken-apart : isName n ≡ true → sameText N (afterFirst n) ≡ true → OneLabelBefore N n
   unfolding all

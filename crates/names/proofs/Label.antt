@@ -1,7 +1,7 @@
 -- The ways out of `is_label_byte`: small letters first. Assumes nothing.
 use Prim.Native.Nat.{ℕ, _<_, _≤_}
 use mathlib.Core.Path.{_≡_}
-use mathlib.Core.Bool.{Bool, and-false, or-false}
+use mathlib.Core.Bool.{and-false, or-false}
 use native.Mathlib.Omega.{arith}
 use lib.Dec.{eqb, leb}
 use borrow.Author.Needs.{needs}

@@ -1,10 +1,10 @@
 -- The ways out of `covers`, `matches` and `is_pattern`. Assumes nothing.
 use Prim.Native.Nat.{ℕ, _+_, _-_, _<_, _≤_}
 use mathlib.Core.Path.{_≡_, refl, sym, _∙_}
-use mathlib.Core.Bool.{Bool, true, false, cond, _&&_, _||_, and-false, or-false}
+use mathlib.Core.Bool.{Bool, true, false, cond, _&&_, and-false, or-false}
 use mathlib.Core.List.{List, [], _∷_}
 use native.Mathlib.Omega.{arith}
-use lib.Dec.{eqb, leb, ltb}
+use lib.Dec.{eqb, leb}
 use lib.ListN.{length, getD, take, drop}
 use borrow.Author.Needs.{needs}
 use borrow.Author.Tests.{not-true, not-false, lt-ltb, le-ltb, leb-true, eqb-true}
@@ -13,7 +13,7 @@ use Rattle.lists.specs.Equal.{sameText}
 use Rattle.lists.specs.Split.{indexOf, split, toFirst}
 use Rattle.lists.proofs.Bools.{and-left, and-right}
 use Rattle.lists.proofs.Laws.{take-rest}
-use Rattle.names.specs.Name.{labelByte, isLabel, isName, isStarred, isWildcard, isPattern, afterFirst, matchesName}
+use Rattle.names.specs.Name.{labelByte, isLabel, isName, isStarred, isWildcard, isPattern, matchesName}
 use Rattle.names.specs.Scan.{coversName}
 use Rattle.names.proofs.Cover.{matches-covers}
 

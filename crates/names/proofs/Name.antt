@@ -1,12 +1,12 @@
 -- `is_name`: a turn of its loop, and its ways out. The loop stands at `start`; e is where `label_end` found the first byte that is of no label. Assumes nothing.
-use Prim.Native.Nat.{ℕ, suc, _+_, _-_, _<_, _≤_}
-use mathlib.Core.Path.{_≡_, refl, sym, ap, _∙_}
-use mathlib.Core.Bool.{Bool, true, false, cond, not, _&&_, and-true, and-false}
-use mathlib.Core.List.{List, [], _∷_}
+use Prim.Native.Nat.{ℕ, _+_, _-_, _<_, _≤_}
+use mathlib.Core.Path.{_≡_, refl, sym, _∙_}
+use mathlib.Core.Bool.{Bool, true, false, not, _&&_, and-true, and-false}
+use mathlib.Core.List.{List}
 use mathlib.Core.Logic.{⊎-elim}
 use native.Mathlib.Nat.{eq-or-lt-of-le}
 use native.Mathlib.Omega.{arith}
-use lib.Dec.{eqb, leb, ltb}
+use lib.Dec.{eqb, ltb}
 use lib.ListN.{length, getD, take, drop, length-drop}
 use lib.Seq.{getD-drop}
 use borrow.Author.Needs.{needs}
@@ -16,13 +16,13 @@ use Rattle.lists.specs.Span.{spanOf}
 use Rattle.lists.specs.Split.{indexOf, split}
 use Rattle.lists.proofs.Laws.{tests}
 use Rattle.lists.proofs.Split.{indexOf-le, index-there, index-most}
-use Rattle.lists.proofs.Every.{found-after, found-within, every-next, every-end, every-fail}
-use Rattle.lists.proofs.Span.{span-le, span-all, span-stops, span-before, span-short}
+use Rattle.lists.proofs.Every.{every-next, every-end, every-fail}
+use Rattle.lists.proofs.Span.{span-le, span-all, span-before, span-short}
 use Rattle.names.specs.Name.{labelByte, isLabel, isName}
 use Rattle.names.specs.Scan.{labelEnds}
 
 -- a dot is of no label
-dot-outside : labelByte 46 ≡ false
+pub dot-outside : labelByte 46 ≡ false
 unfolding labelByte
 dot-outside = refl
 

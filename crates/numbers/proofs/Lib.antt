@@ -1,4 +1,5 @@
 pub mod Numbers
 pub mod Pieces
 pub mod Loop
+pub mod Written
 mod Worked

@@ -1,18 +1,18 @@
 -- Laws of `numbers` by place, and the turns of the loops over a list's numbers. Assumes nothing.
-use Prim.Native.Nat.{ℕ, zero, suc, _+_, _*_, _-_, _/_, _%_, _<_, _≤_}
+use Prim.Native.Nat.{ℕ, zero, suc, _+_, _*_, _-_, _/_, _<_, _≤_}
 use mathlib.Core.Path.{_≡_, refl, sym, _∙_}
-use mathlib.Core.Bool.{Bool, true, false, _&&_, and-false}
+use mathlib.Core.Bool.{Bool, true, false, and-false}
 use mathlib.Core.List.{List, [], _∷_}
 use native.Mathlib.Nat.{add-zero}
 use native.Mathlib.Omega.{arith}
-use lib.Dec.{eqb, leb}
+use lib.Dec.{eqb}
 use lib.ListN.{length, getD, drop, length-drop, drop-of-length-le, List·getD-eq-default}
 use lib.Seq.{getD-drop}
 use borrow.Author.Needs.{needs}
-use borrow.Author.Tests.{not-true, not-false, le-leb, lt-leb, leb-true, eq-eqb, ne-eqb}
+use borrow.Author.Tests.{not-true, not-false, le-leb, lt-leb, eq-eqb, ne-eqb}
 use Rattle.lists.specs.Bytes.{all}
 use Rattle.lists.proofs.Laws.{drop-next}
-use Rattle.numbers.specs.Numbers.{word, numbers, isWhole, sum, atMost, written}
+use Rattle.numbers.specs.Numbers.{word, numbers, isWhole, sum, atMost}
 use Rattle.numbers.specs.Pieces.{sumsTo}
 
 -- a list of n bytes has n / 4 numbers
@@ -36,6 +36,9 @@ numbers-drop (suc k) s = let four : suc k * 4 ≡ suc (suc (suc (suc (k * 4)))) 
     go ih (a ∷ b ∷ []) = refl
     go ih (a ∷ b ∷ c ∷ []) = refl
     go ih (a ∷ b ∷ c ∷ d ∷ s) = ih s
+
+pub number-shift : (m : ℕ) (s : List ℕ) (i j : ℕ) → j ≡ m + i → getD (numbers s) j 0 ≡ getD (numbers (drop (m * 4) s)) i 0
+number-shift m s i j e = rw (numbers-drop m s, getD-drop m (numbers s) i 0, e)
 
 first-is : (s : List ℕ) → 4 ≤ length s → getD (numbers s) 0 0 ≡ word (getD s 0 0) (getD s 1 0) (getD s 2 0) (getD s 3 0)
 unfolding numbers
@@ -120,26 +123,3 @@ module _ (list : List ℕ) (total : ℕ) (w : Bool) (whole : w ≡ isWhole list)
         cc
 
 pub ruleset sums-laws = (sums-left-over, sums-next, sums-over, sums-end, not-true, not-false, needs)
-
-four-is : (n : ℕ) → n < 4294967296 → word (n / 16777216) (n / 65536 % 256) (n / 256 % 256) (n % 256) ≡ n
-four-is n h = omega arith
-
--- numbers written as a list are read back
-pub numbers-written : (ns : List ℕ) → all (atMost 4294967295) ns ≡ true → numbers (written ns) ≡ ns
-unfolding numbers written all atMost
-numbers-written [] h = refl
-numbers-written (n ∷ ns) h = go (numbers-written ns) (leb n 4294967295) refl h
-  where
-    go : (all (atMost 4294967295) ns ≡ true → numbers (written ns) ≡ ns) → (t : Bool) → leb n 4294967295 ≡ t → (t && all (atMost 4294967295) ns) ≡ true → numbers (written (n ∷ ns)) ≡ n ∷ ns
-    go ih true e k = rw (ih k, four-is n (omega (arith, leb-true n 4294967295 e)))
-    go ih false e k = absurd (let z : _≡_ {A = ℕ} 0 1 = cc in omega arith)
-
--- a list written has four bytes for each number, so that none are left over
-pub written-length : (ns : List ℕ) → length (written ns) ≡ length ns * 4
-unfolding written
-written-length [] = refl
-written-length (n ∷ ns) = omega (arith, written-length ns)
-
-pub written-whole : (ns : List ℕ) → isWhole (written ns) ≡ true
-unfolding isWhole
-written-whole ns = eq-eqb (length (written ns) % 4) 0 (omega (arith, written-length ns))

@@ -1,20 +1,21 @@
--- Laws of `endOf`, `cut` and `pieces`. s is cut by the numbers ns; a loop stands at the byte `at` of s and at the place k of ns. Assumes nothing.
+-- Laws of `endOf`, `cut`, `pieces` and `numbered`. s is cut by the numbers ns; a loop stands at the byte `at` of s and at the place k of ns. Assumes nothing.
 use Prim.Native.Nat.{ℕ, suc, _+_, _-_, _<_, _≤_}
 use mathlib.Core.Path.{_≡_, refl, sym, ap, _∙_}
-use mathlib.Core.Bool.{Bool, true, false, cond, _&&_}
-use mathlib.Core.List.{List, [], _∷_, map, flatten}
-use mathlib.Core.Option.{Option, none, some}
+use mathlib.Core.Bool.{Bool, true, false, cond}
+use mathlib.Core.List.{List, [], _∷_, flatten}
+use mathlib.Core.Option.{none, some}
 use native.Mathlib.Omega.{arith}
 use lib.Dec.{eqb, leb}
-use lib.ListN.{length, getD, take, drop, length-drop, length-append, take-append-drop, drop-of-length-le, List·getD-eq-default}
-use lib.Seq.{drop-drop, take-all, take-nil, length-take-le, take-append-seam, drop-append-seam}
+use lib.ListN.{length, getD, take, drop, length-drop, take-append-drop, drop-of-length-le, List·getD-eq-default}
+use lib.Seq.{drop-drop, take-all, take-nil, length-take-le}
 use borrow.Author.Needs.{needs}
 use borrow.Author.Tests.{le-leb, lt-leb, leb-true, leb-false, eqb-true}
 use Rattle.lists.specs.Bytes.{all}
-use Rattle.lists.proofs.Bools.{and-right}
+use Rattle.lists.proofs.All.{all-take, all-drop}
+use Rattle.lists.proofs.Bools.{never, and-left, and-right, and-intro}
 use Rattle.lists.proofs.Laws.{drop-next}
 use Rattle.numbers.specs.Numbers.{numbers, isWhole, sum, atMost}
-use Rattle.numbers.specs.Pieces.{cut, sumsTo, pieces, upTo, endOf}
+use Rattle.numbers.specs.Pieces.{cut, sumsTo, pieces, upTo, numbered, endOf}
 
 -- `end_of`: its ways out
 module _ (total at n : ℕ) where
@@ -146,7 +147,7 @@ pieces-joined s l ps e = go (sumsTo l (length s)) refl e
   where
     go : (t : Bool) → sumsTo l (length s) ≡ t → cond t (some (cut s (numbers l))) none ≡ some ps → flatten ps ≡ s
     go true q e = let c : cut s (numbers l) ≡ ps = cc in rw (← c) (cut-joined s (numbers l) (sums-true l (length s) q))
-    go false q e = absurd (let z : _≡_ {A = ℕ} 0 1 = cc in omega arith)
+    go false q e = never cc
 
 -- the pieces have the sizes that the list of lengths says, where these sum to the bytes
 sized : (b : ℕ) (s ns : List ℕ) → sum ns ≡ length s → all (upTo b) (cut s ns) ≡ all (atMost b) ns
@@ -160,13 +161,28 @@ sized b s (n ∷ ns) h =
 pub sizes : (b : ℕ) (s l : List ℕ) (w : Bool) → w ≡ sumsTo l (length s) → w ≡ true → all (upTo b) (cut s (numbers l)) ≡ all (atMost b) (numbers l)
 sizes b s l w we wt = sized b s (numbers l) (sums-true l (length s) (sym we ∙ wt))
 
--- whatever is written one after another, with its lengths, is read back
-pub cut-written : (xs : List (List ℕ)) → cut (flatten xs) (map length xs) ≡ xs
-unfolding cut flatten
-cut-written [] = refl
-cut-written (x ∷ xs) = rw (take-append-seam x (flatten xs), drop-append-seam x (flatten xs), cut-written xs)
+-- what a test says of every element of s it says of every element of each piece
+pub cut-all : (p : ℕ → Bool) (s ns : List ℕ) → all p s ≡ true → all (all p) (cut s ns) ≡ true
+unfolding cut all
+cut-all p s [] h = refl
+cut-all p s (n ∷ ns) h = and-intro (all p (take n s)) (all (all p) (cut (drop n s) ns)) (all-take p n s h) (cut-all p (drop n s) ns (all-drop p n s h))
 
-pub written-sum : (xs : List (List ℕ)) → sum (map length xs) ≡ length (flatten xs)
-unfolding sum flatten
-written-sum [] = refl
-written-sum (x ∷ xs) = rw (written-sum xs, length-append x (flatten xs))
+-- what f makes of each piece and the place after its own, g makes of its own
+pub numbered-shift : {A : Type 0} (f g : ℕ → List ℕ → A) → ((k : ℕ) (x : List ℕ) → f (k + 1) x ≡ g k x) → (k : ℕ) (xs : List (List ℕ)) → numbered f (k + 1) xs ≡ numbered g k xs
+unfolding numbered
+numbered-shift f g h k [] = refl
+numbered-shift f g h k (x ∷ xs) = rw (h k x, numbered-shift f g h (k + 1) xs)
+
+-- what f makes of each piece of n passes a test, where it does so of each that passes another
+pub numbered-all : {A : Type 0} (p : A → Bool) (q : List ℕ → Bool) (f : ℕ → List ℕ → A) (n : ℕ) → ((j : ℕ) (x : List ℕ) → j < n → q x ≡ true → p (f j x) ≡ true)
+    → (k : ℕ) (xs : List (List ℕ)) → k + length xs ≤ n → all q xs ≡ true → all p (numbered f k xs) ≡ true
+unfolding numbered all
+numbered-all p q f n h k [] l b = refl
+numbered-all p q f n h k (x ∷ xs) l b =
+    and-intro (p (f k x)) (all p (numbered f (k + 1) xs)) (h k x (omega arith) (and-left (q x) (all q xs) b))
+    (numbered-all p q f n h (k + 1) xs (omega arith) (and-right (q x) (all q xs) b))
+
+-- a piece of at most n bytes
+pub upTo-true : (n : ℕ) (x : List ℕ) → upTo n x ≡ true → length x ≤ n
+unfolding upTo
+upTo-true n x h = leb-true (length x) n h

@@ -1,9 +1,8 @@
 -- Lists of numbers and their pieces, by computation.
-use Prim.Native.Nat.{ℕ}
 use mathlib.Core.Path.{_≡_, refl}
-use mathlib.Core.Bool.{Bool, true, false, _&&_}
-use mathlib.Core.List.{List, [], _∷_, _++_}
-use mathlib.Core.Option.{Option, none, some}
+use mathlib.Core.Bool.{true, false}
+use mathlib.Core.List.{[], _∷_, _++_}
+use mathlib.Core.Option.{none, some}
 use Rattle.lists.specs.Text.{text}
 use Rattle.numbers.specs.Numbers.{numbers, isWhole, sum, written}
 use Rattle.numbers.specs.Pieces.{cut, sumsTo, pieces}

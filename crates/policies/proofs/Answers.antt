@@ -13,6 +13,7 @@ use Rattle.lists.specs.Bytes.{any}
 use Rattle.lists.specs.Equal.{sameBytes}
 use Rattle.lists.specs.Split.{indexOf}
 use Rattle.lists.specs.Text.{text}
+use Rattle.lists.proofs.Bools.{never}
 use Rattle.names.specs.Name.{isName, matchesName}
 use Rattle.names.specs.Scan.{coversName}
 use Rattle.names.proofs.Cover.{matches-covers}
@@ -126,7 +127,7 @@ module _ (s : List ℕ) (x : PolicyAnswer) (c : Checked) (g : c ≡ checked s) (
   malformed-body b k e = rw (le-ltb 65536 (length s) h) (go (bodyFault s) (sym g ∙ k))
     where
       go : (f : Option Fault) → outcome (seenIn (lines s)) (length (patterns (lines s))) f ≡ Checked.Refused b → x ≡ answerTo (judged f (lines s))
-      go none k = absurd (let z : _≡_ {A = ℕ} 0 1 = cc in omega arith)
+      go none k = never cc
       go (some f) k = e
 
   pub sound-body : (r : Seen) (m : ℕ) → c ≡ Checked.Read r m → x ≡ answerOf r m → x ≡ policyAnswer s
@@ -138,7 +139,7 @@ module _ (s : List ℕ) (x : PolicyAnswer) (c : Checked) (g : c ≡ checked s) (
           let p : r ≡ seenIn (lines s) = cc in
           let q : m ≡ length (patterns (lines s)) = cc in
           e ∙ rw (p, q) (answer-same (anyNamed (text "version") (lines s)) (firstMode (lines s)) (firstAge (lines s)) (patterns (lines s)))
-      go (some f) k = absurd (let z : _≡_ {A = ℕ} 0 1 = cc in omega arith)
+      go (some f) k = never cc
 
 pub ruleset policy-laws = (too-long, malformed-body, sound-body, needs)
 

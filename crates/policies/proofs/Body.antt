@@ -12,9 +12,9 @@ use borrow.Author.Needs.{needs}
 use borrow.Author.Tests.{lt-ltb, le-ltb}
 use Rattle.lists.specs.Split.{indexOf, toFirst}
 use Rattle.lists.proofs.Split.{indexOf-le}
+use Rattle.lists.proofs.Laws.{ltb-suc, ltb-drop}
 use Rattle.policies.specs.Lines.{lines, lineStart}
 use Rattle.policies.specs.Reader.{textEnd, lineEnd, lineAt}
-use Rattle.policies.proofs.Lists.{ltb-suc, ltb-drop}
 
 text-zero : (u : List ℕ) → textEnd u 0 0 ≡ 0
 unfolding textEnd

@@ -9,7 +9,7 @@ use lib.ListN.{length}
 use borrow.Author.Tests.{eqb-true, not-true}
 use Rattle.lists.specs.Bytes.{all}
 use Rattle.lists.specs.Split.{toFirst, lacks}
-use Rattle.lists.proofs.Bools.{and-both}
+use Rattle.lists.proofs.Bools.{and-both, never}
 use Rattle.fields.specs.Blank.{blank}
 use Rattle.fields.specs.Name.{nameByte, letterOrDigit}
 use Rattle.policies.specs.Lines.{LF, CR, lines}
@@ -117,7 +117,7 @@ lines-made (x ∷ y ∷ s) h = go (lines-made (y ∷ s)) (lines-made s) (eqb x L
         let k : x ≡ CR = eqb-true x CR f in
         let m : y ≡ LF = eqb-true y LF g in
         rw (k, m) (long {l = []} (j (rw g at h)))
-    go i j false true false e f g h = absurd (let z : _≡_ {A = ℕ} 0 1 = cc (first-clean x (lines (y ∷ s)) h .0) in omega arith)
+    go i j false true false e f g h = never (cc (first-clean x (lines (y ∷ s)) h .0))
     go i j false false v e f g h = one-byte x (y ∷ s) (lines (y ∷ s)) (i (first-clean x (lines (y ∷ s)) h .1))
 
 lines-clean : (ls : List (List ℕ)) → all isLine ls ≡ true → all (lacks CR) ls ≡ true

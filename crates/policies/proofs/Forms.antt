@@ -11,17 +11,18 @@ use borrow.Author.Tests.{leb-true, eqb-false, ne-eqb, not-true, lt-ltb, le-ltb, 
 use Rattle.lists.specs.Bytes.{all}
 use Rattle.lists.specs.Span.{spanOf}
 use Rattle.lists.specs.Split.{indexOf, lacks}
-use Rattle.lists.proofs.Span.{span-all}
+use Rattle.lists.proofs.Span.{span-all, span-append}
 use Rattle.lists.proofs.Bools.{and-both}
+use Rattle.lists.proofs.All.{all-append, all-drop, all-at, all-lacks}
+use Rattle.lists.proofs.Split.{index-append, index-beyond, index-lacks}
 use Rattle.fields.specs.Blank.{blank, unblanked, afterBlanks, beforeBlanks}
 use Rattle.fields.specs.Name.{nameByte, letterOrDigit, hasName, before, after}
 use Rattle.fields.proofs.Blank.{unblanked-le, back-start, back-stop}
-use Rattle.fields.proofs.Name.{has-name, has-whole, written-has, written-before, written-after}
+use Rattle.fields.proofs.Name.{has-name, has-whole, written-has, written-before, written-after, name-bytes}
 use Rattle.policies.specs.Texts.{isText, isValue}
 use Rattle.policies.specs.Fields.{nameOf, valueOf, isLine, isNamed}
 use Rattle.policies.specs.Paper.{Pair, Line, line}
-use Rattle.policies.proofs.Lists.{all-append, all-drop, all-at, all-lacks, span-append, index-append, index-beyond, index-lacks}
-use Rattle.policies.proofs.Front.{name-bytes, name-append}
+use Rattle.policies.proofs.Front.{name-append}
 use Rattle.policies.proofs.Unicode.{graphic, text-graphic}
 
 -- the name and the value of a line
@@ -91,7 +92,7 @@ module _ (v : List ℕ) (h : isValue v ≡ true) where
 
   value-front : (c : List ℕ) → spanOf blank (v ++ c) ≡ 0
   unfolding spanOf
-  value-front c = go v (value-parts .0) (not-blank (getD v 0 0) (all-at graphic v 0 value-graphic (omega (arith, value-parts .0))) (value-parts .1))
+  value-front c = go v (value-parts .0) (not-blank (getD v 0 0) (all-at graphic 0 v 0 (omega (arith, value-parts .0)) value-graphic) (value-parts .1))
     where
       go : (u : List ℕ) → 1 ≤ length u → blank (getD u 0 0) ≡ false → spanOf blank (u ++ c) ≡ 0
       go [] k n = absurd (omega arith)
@@ -100,7 +101,7 @@ module _ (v : List ℕ) (h : isValue v ≡ true) where
   value-back : unblanked v ≡ length v
   value-back =
       let one : 1 ≤ length v = value-parts .0 in
-      sym (back-stop v (length v) (back-start v) (omega arith) false (omega arith) (sym (not-blank (getD v (length v - 1) 0) (all-at graphic v (length v - 1) value-graphic (omega arith)) (value-parts .2))) refl)
+      sym (back-stop v (length v) (back-start v) (omega arith) false (omega arith) (sym (not-blank (getD v (length v - 1) 0) (all-at graphic 0 v (length v - 1) (omega arith) value-graphic) (value-parts .2))) refl)
 
   -- so a value between blanks is read back
   value-alone : (b c : List ℕ) → all blank b ≡ true → all blank c ≡ true → beforeBlanks (afterBlanks (b ++ (v ++ c))) ≡ v

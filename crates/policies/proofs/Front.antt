@@ -1,7 +1,7 @@
 -- The name of a line is looked for from the line's start on, before its end is known: it is the same name. Assumes nothing.
 use Prim.Native.Nat.{ℕ, _+_, _-_, _<_, _≤_}
 use mathlib.Core.Path.{_≡_, refl, sym, ap, _∙_}
-use mathlib.Core.Bool.{Bool, true, false, cond, not, _&&_}
+use mathlib.Core.Bool.{Bool, true, false, cond, _&&_}
 use mathlib.Core.List.{List, _∷_, _++_}
 use mathlib.Core.Logic.{_⊎_, inl, inr, ⊎-elim}
 use native.Mathlib.Omega.{arith}
@@ -10,16 +10,17 @@ use lib.ListN.{length, getD, take, drop, length-append, length-drop, take-append
 use lib.Seq.{take-all, take-append-le, length-take-le, drop-drop, getD-take, getD-append-seam}
 use borrow.Author.Needs.{needs}
 use borrow.Author.Tests.{lt-ltb, le-ltb, ltb-true, ltb-false, le-leb, lt-leb, leb-true, leb-false, eqb-true}
-use Rattle.lists.specs.Bytes.{within, all}
+use Rattle.lists.specs.Bytes.{all}
 use Rattle.lists.specs.Span.{spanOf}
 use Rattle.lists.specs.Split.{indexOf, lacks}
-use Rattle.lists.proofs.Laws.{drop-next}
-use Rattle.lists.proofs.Span.{span-within}
-use Rattle.lists.proofs.Split.{index-there}
-use Rattle.lists.proofs.Bools.{and-both}
+use Rattle.lists.proofs.Laws.{drop-next, drop-take}
+use Rattle.lists.proofs.Span.{span-within, span-reaches, span-index}
+use Rattle.lists.proofs.Split.{index-there, index-append, index-beyond, index-lacks, index-take}
+use Rattle.lists.proofs.Bools.{and-both, never}
+use Rattle.lists.proofs.All.{all-at, all-lacks}
 use Rattle.fields.specs.declared.Field.{Field}
-use Rattle.fields.specs.Name.{letterOrDigit, nameByte, isFieldName, before, after, hasName, fieldAt}
-use Rattle.fields.proofs.Name.{has-inside, has-name, has-whole, named-has, named-place, named-after, named-inside, named-rest, malformed-has}
+use Rattle.fields.specs.Name.{letterOrDigit, nameByte, before, after, hasName, fieldAt}
+use Rattle.fields.proofs.Name.{has-inside, has-name, has-whole, named-has, named-place, named-after, named-inside, named-rest, malformed-has, name-bytes}
 use Rattle.policies.specs.declared.Cause.{Cause}
 use Rattle.policies.specs.declared.Seen.{Seen}
 use Rattle.policies.specs.declared.Step.{Step}
@@ -27,13 +28,7 @@ use Rattle.policies.specs.declared.Turn.{Turn}
 use Rattle.policies.specs.Texts.{printable}
 use Rattle.policies.specs.Fields.{isLine}
 use Rattle.policies.specs.Reader.{textEnd, takeLine, lineEnd, lineAt, placed, turnAt}
-use Rattle.policies.proofs.Lists.{all-at, all-lacks, index-append, index-beyond, index-lacks, index-take, drop-take, span-reaches, span-index}
 use Rattle.policies.proofs.Body.{text-shift, text-after, text-within}
-
--- the bytes of a name
-pub name-bytes : (n : List ℕ) → isFieldName n ≡ true → all nameByte n ≡ true
-unfolding isFieldName
-name-bytes n h = and-both (within 1 32 (length n) && letterOrDigit (getD n 0 0)) (all nameByte n) h .1
 
 -- what follows a colon, or a byte that is of no name, does not matter
 pub name-append : (l e : List ℕ) → indexOf 58 l < length l → hasName 58 (l ++ e) ≡ hasName 58 l
@@ -53,10 +48,9 @@ module _ (l m : List ℕ) (x : ℕ) (apart : nameByte x ≡ false) (other : eqb 
       let u : List ℕ = l ++ (x ∷ m) in
       let i : indexOf 58 u < length u = has-inside 58 u h in
       let n : length (take (indexOf 58 u) u) ≡ indexOf 58 u = length-take-le (indexOf 58 u) u (omega arith) in
-      let k : nameByte (getD (take (indexOf 58 u) u) (length l) 0) ≡ true = all-at nameByte (take (indexOf 58 u) u) (length l) (name-bytes (take (indexOf 58 u) u) (has-name 58 u h)) (omega (arith, beyond)) in
+      let k : nameByte (getD (take (indexOf 58 u) u) (length l) 0) ≡ true = all-at nameByte 0 (take (indexOf 58 u) u) (length l) (omega (arith, beyond)) (name-bytes (take (indexOf 58 u) u) (has-name 58 u h)) in
       let g : getD (take (indexOf 58 u) u) (length l) 0 ≡ x = getD-take (indexOf 58 u) u (length l) 0 beyond ∙ getD-append-seam l x m 0 in
-      let z : _≡_ {A = ℕ} 0 1 = cc (k, g, apart) in
-      omega arith
+      never (cc (k, g, apart))
 
 lf-apart : nameByte 10 ≡ false
 unfolding nameByte letterOrDigit

@@ -1,4 +1,3 @@
-pub mod Lists
 pub mod Texts
 pub mod Values
 pub mod Takes

@@ -13,7 +13,7 @@ use Rattle.lists.specs.Equal.{agree, sameByte, sameBytes}
 use Rattle.lists.specs.Text.{text}
 use Rattle.lists.proofs.Agree.{same-bytes}
 use Rattle.names.specs.Name.{isPattern}
-use Rattle.lists.proofs.Bools.{and-both}
+use Rattle.lists.proofs.Bools.{and-both, never}
 use Rattle.clock.specs.Clock.{lifetimeOf}
 use Rattle.policies.specs.declared.Mode.{Mode}
 use Rattle.policies.specs.declared.Mode.the-variants as M
@@ -55,7 +55,7 @@ any-there name (l ∷ ls) = go (any-there name ls) (isNamed name l)
 absent : {A : Type 0} (o : Option A) → isThere o ≡ false → o ≡ none
 unfolding isThere
 absent none h = refl
-absent (some a) h = absurd (let z : _≡_ {A = ℕ} 0 1 = cc in omega arith)
+absent (some a) h = never cc
 
 -- the texts of the modes, and what 1 to 10 digits write
 mode-read : (m : Mode) → modeOf (modeText m) ≡ some m
@@ -75,7 +75,7 @@ mode-text v m h = go (sameBytes v (text "enforce")) (sameBytes v (text "testing"
     go true b c p q r h = is M.Enforce h (same-bytes v (text "enforce") p)
     go false true c p q r h = is M.Testing h (same-bytes v (text "testing") q)
     go false false true p q r h = is M.None h (same-bytes v (text "none") r)
-    go false false false p q r h = absurd (let z : _≡_ {A = ℕ} 0 1 = cc in omega arith)
+    go false false false p q r h = never cc
 
 age-read : (v : List ℕ) → (within 1 10 (length v) && all isDigit v) ≡ true → ageOf v ≡ some (decimalAfter 0 v)
 unfolding ageOf
@@ -87,7 +87,7 @@ age-digits v n h = go (within 1 10 (length v) && all isDigit v) h
   where
     go : (t : Bool) → cond t (some (decimalAfter 0 v)) none ≡ some n → (t ≡ true) × (decimalAfter 0 v ≡ n)
     go true k = (refl, cc)
-    go false k = absurd (let z : _≡_ {A = ℕ} 0 1 = cc in omega arith)
+    go false k = never cc
 
 -- a policy that a body writes is read from it
 module _ (s : List ℕ) (p : Policy) (w : Writes s p) where
@@ -118,7 +118,7 @@ module _ (s : List ℕ) (p : Policy) (w : Writes s p) where
   some-byte = go s refl
     where
       go : (t : List ℕ) → s ≡ t → leb 1 (length t) ≡ true
-      go [] e = absurd (let z : firstNamed (text "version") [] ≡ some (text "STSv1") = rw e at version-is in let y : _≡_ {A = ℕ} 0 1 = cc in omega arith)
+      go [] e = absurd (let z : firstNamed (text "version") [] ≡ some (text "STSv1") = rw e at version-is in never cc)
       go (x ∷ t) e = le-leb 1 (length (x ∷ t)) (omega arith)
 
   no-fault : bodyFault s ≡ none
@@ -132,12 +132,12 @@ module _ (s : List ℕ) (p : Policy) (w : Writes s p) where
 -- what was found first
 version-found : (o : Option (List ℕ)) → isThere o ≡ true → holds isVersion o ≡ true → o ≡ some (text "STSv1")
 unfolding isThere holds isVersion
-version-found none h k = absurd (let z : _≡_ {A = ℕ} 0 1 = cc in omega arith)
+version-found none h k = never cc
 version-found (some v) h k = rw (same-bytes v (text "STSv1") k)
 
 mode-found : (o : Option (List ℕ)) (m : Mode) → modeIn o ≡ some m → o ≡ some (modeText m)
 unfolding modeIn
-mode-found none m h = absurd (let z : _≡_ {A = ℕ} 0 1 = cc in omega arith)
+mode-found none m h = never cc
 mode-found (some v) m h = rw (mode-text v m h)
 
 record AgeFound (o : Option (List ℕ)) (n : ℕ) : Type 0 where
@@ -148,7 +148,7 @@ record AgeFound (o : Option (List ℕ)) (n : ℕ) : Type 0 where
 
 age-found : (o : Option (List ℕ)) (n : ℕ) → ageIn o ≡ some n → AgeFound o n
 unfolding ageIn
-age-found none n h = absurd (let z : _≡_ {A = ℕ} 0 1 = cc in omega arith)
+age-found none n h = never cc
 age-found (some v) n h = record { age = v; is = refl; digits = age-digits v n h .0; writes = age-digits v n h .1 }
 
 -- a body that is read as a policy writes it
@@ -201,18 +201,18 @@ accepted s p h = long (ltb longestBody (length s)) refl h
     end m n l c v f g true e k =
         let q : record { mode = m; lifetime = lifetimeOf n; patterns = patterns (lines s) } ≡ p = cc in
         rw q at (made s l c m n v f g e)
-    end m n l c v f g false e k = absurd (let z : _≡_ {A = ℕ} 0 1 = cc in omega arith)
+    end m n l c v f g false e k = never cc
 
     fields : (v : Bool) (f : Option Mode) (g : Option ℕ) → length s ≤ longestBody → bodyFault s ≡ none → anyNamed (text "version") (lines s) ≡ v → firstMode (lines s) ≡ f → firstAge (lines s) ≡ g → complete v f g (patterns (lines s)) ≡ policy p → Writes s p
-    fields false f g l c x y z k = absurd (let z : _≡_ {A = ℕ} 0 1 = cc in omega arith)
-    fields true none g l c x y z k = absurd (let z : _≡_ {A = ℕ} 0 1 = cc in omega arith)
-    fields true (some m) none l c x y z k = absurd (let z : _≡_ {A = ℕ} 0 1 = cc in omega arith)
+    fields false f g l c x y z k = never cc
+    fields true none g l c x y z k = never cc
+    fields true (some m) none l c x y z k = never cc
     fields true (some m) (some n) l c x y z k = end m n l c x y z (hasPatterns m (patterns (lines s))) refl k
 
     fault : (o : Option Fault) → length s ≤ longestBody → bodyFault s ≡ o → judged o (lines s) ≡ policy p → Writes s p
-    fault (some f) l c k = absurd (let z : _≡_ {A = ℕ} 0 1 = cc in omega arith)
+    fault (some f) l c k = never cc
     fault none l c k = fields (anyNamed (text "version") (lines s)) (firstMode (lines s)) (firstAge (lines s)) l c refl refl refl k
 
     long : (t : Bool) → ltb longestBody (length s) ≡ t → cond t tooLong (judged (bodyFault s) (lines s)) ≡ policy p → Writes s p
-    long true e k = absurd (let z : _≡_ {A = ℕ} 0 1 = cc in omega arith)
+    long true e k = never cc
     long false e k = fault (bodyFault s) (ltb-false longestBody (length s) e) refl k

@@ -15,6 +15,7 @@ use Rattle.lists.specs.Equal.{agree, sameByte, sameBytes}
 use Rattle.lists.specs.Split.{indexOf}
 use Rattle.lists.specs.Text.{text}
 use Rattle.lists.proofs.Agree.{same-bytes}
+use Rattle.lists.proofs.Bools.{never}
 use Rattle.names.specs.Name.{isPattern}
 use Rattle.fields.specs.Name.{hasName}
 use Rattle.fields.proofs.Name.{has-inside}
@@ -126,13 +127,13 @@ orAge (HA.Is age) later = HA.Is age
 
 mode-had : (x : MaybeMode) → holdsMode x ≡ true → (later : MaybeMode) → orMode x later ≡ x
 unfolding orMode holdsMode
-mode-had HM.Nothing h later = absurd (let z : _≡_ {A = ℕ} 0 1 = cc in omega arith)
+mode-had HM.Nothing h later = never cc
 mode-had (HM.Is mode) h later = refl
 
 mode-new : (x : MaybeMode) → holdsMode x ≡ false → (later : MaybeMode) → orMode x later ≡ later
 unfolding orMode holdsMode
 mode-new HM.Nothing h later = refl
-mode-new (HM.Is mode) h later = absurd (let z : _≡_ {A = ℕ} 0 1 = cc in omega arith)
+mode-new (HM.Is mode) h later = never cc
 
 mode-alone : (x : MaybeMode) → orMode x HM.Nothing ≡ x
 unfolding orMode
@@ -141,13 +142,13 @@ mode-alone (HM.Is mode) = refl
 
 age-had : (x : MaybeAge) → holdsAge x ≡ true → (later : MaybeAge) → orAge x later ≡ x
 unfolding orAge holdsAge
-age-had HA.Nothing h later = absurd (let z : _≡_ {A = ℕ} 0 1 = cc in omega arith)
+age-had HA.Nothing h later = never cc
 age-had (HA.Is age) h later = refl
 
 age-new : (x : MaybeAge) → holdsAge x ≡ false → (later : MaybeAge) → orAge x later ≡ later
 unfolding orAge holdsAge
 age-new HA.Nothing h later = refl
-age-new (HA.Is age) h later = absurd (let z : _≡_ {A = ℕ} 0 1 = cc in omega arith)
+age-new (HA.Is age) h later = never cc
 
 age-alone : (x : MaybeAge) → orAge x HA.Nothing ≡ x
 unfolding orAge
@@ -304,19 +305,19 @@ check-empty s x h e = rw (eq-eqb (length s) 0 h) e
 turned-next : (st : Step) (next : ℕ) (q : Seen) (k : ℕ) → T.Next q k ≡ placed st next → (st ≡ Next q) × (k ≡ next)
 unfolding placed
 turned-next (Next r) next q k h = (cc, cc)
-turned-next Pattern next q k h = absurd (let z : _≡_ {A = ℕ} 0 1 = cc in omega arith)
-turned-next (Broken c) next q k h = absurd (let z : _≡_ {A = ℕ} 0 1 = cc in omega arith)
+turned-next Pattern next q k h = never cc
+turned-next (Broken c) next q k h = never cc
 
 turned-pattern : (st : Step) (next : ℕ) (k : ℕ) → T.Pattern k ≡ placed st next → (st ≡ Pattern) × (k ≡ next)
 unfolding placed
-turned-pattern (Next r) next k h = absurd (let z : _≡_ {A = ℕ} 0 1 = cc in omega arith)
+turned-pattern (Next r) next k h = never cc
 turned-pattern Pattern next k h = (refl, cc)
-turned-pattern (Broken c) next k h = absurd (let z : _≡_ {A = ℕ} 0 1 = cc in omega arith)
+turned-pattern (Broken c) next k h = never cc
 
 turned-broken : (st : Step) (next : ℕ) (c : Cause) → T.Broken c ≡ placed st next → st ≡ Broken c
 unfolding placed
-turned-broken (Next r) next c h = absurd (let z : _≡_ {A = ℕ} 0 1 = cc in omega arith)
-turned-broken Pattern next c h = absurd (let z : _≡_ {A = ℕ} 0 1 = cc in omega arith)
+turned-broken (Next r) next c h = never cc
+turned-broken Pattern next c h = never cc
 turned-broken (Broken d) next c h = cc
 
 -- a turn: tr is what `take_line` gave at `at`

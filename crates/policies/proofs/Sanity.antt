@@ -13,7 +13,7 @@ use Rattle.lists.specs.Bytes.{all}
 use Rattle.lists.specs.Equal.{sameBytes}
 use Rattle.lists.specs.Split.{toFirst, lacks}
 use Rattle.lists.specs.Text.{text}
-use Rattle.lists.proofs.Bools.{and-both}
+use Rattle.lists.proofs.Bools.{and-both, never}
 use Rattle.clock.specs.Clock.{longest}
 use Rattle.clock.proofs.Laws.{capped-most}
 use Rattle.policies.specs.declared.Mode.{Mode}
@@ -114,8 +114,8 @@ answer-exactly s = go (ltb longestBody (length s)) (bodyFault s) (leb 1 (length 
     go : (t : Bool) (o : Option Fault) (w : Bool) → isThere o ≡ not w → answerTo (cond t tooLong (judged o (lines s))) ≡ cond t (refused 50) (cond w (answerTo (completed (lines s))) (refused 51))
     go true o w h = refl
     go false none true h = refl
-    go false none false h = absurd (let z : _≡_ {A = ℕ} 0 1 = cc in omega arith)
-    go false (some f) true h = absurd (let z : _≡_ {A = ℕ} 0 1 = cc in omega arith)
+    go false none false h = never cc
+    go false (some f) true h = never cc
     go false (some f) false h = refl
 
 -- a body has a line exactly where it has a byte
@@ -215,7 +215,7 @@ lf-same s p e =
 -- The first of a name stays the first, whatever lines follow
 pub first-stays : (name : List ℕ) (ls ms : List (List ℕ)) → isThere (firstNamed name ls) ≡ true → firstNamed name (ls ++ ms) ≡ firstNamed name ls
 unfolding firstNamed isThere
-first-stays name [] ms h = absurd (let z : _≡_ {A = ℕ} 0 1 = cc in omega arith)
+first-stays name [] ms h = never cc
 first-stays name (l ∷ ls) ms h = go (first-stays name ls ms) (isNamed name l) h
   where
     go : (isThere (firstNamed name ls) ≡ true → firstNamed name (ls ++ ms) ≡ firstNamed name ls) → (t : Bool) → isThere (cond t (some (valueOf l)) (firstNamed name ls)) ≡ true → cond t (some (valueOf l)) (firstNamed name (ls ++ ms)) ≡ cond t (some (valueOf l)) (firstNamed name ls)
@@ -235,7 +235,7 @@ unfolding isLater firstValue isThere
 first-ignored name f [] gs h = go (sameBytes (f .name) name) h
   where
     go : (t : Bool) → (not t || false) ≡ true → cond t (some (f .value)) (firstValue name gs) ≡ firstValue name gs
-    go true k = absurd (let z : _≡_ {A = ℕ} 0 1 = cc in omega arith)
+    go true k = never cc
     go false k = refl
 first-ignored name f (g ∷ fs) gs h = go (first-ignored name f fs gs) (sameBytes (g .name) name) h
   where

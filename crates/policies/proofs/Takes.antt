@@ -16,6 +16,8 @@ use Rattle.lists.specs.Split.{indexOf}
 use Rattle.lists.specs.Text.{text}
 use Rattle.lists.proofs.Laws.{take-rest}
 use Rattle.lists.proofs.Span.{span-le}
+use Rattle.lists.proofs.All.{all-drop, all-take}
+use Rattle.lists.proofs.Bools.{never}
 use Rattle.names.specs.Name.{isPattern}
 use Rattle.fields.specs.Name.{hasName}
 use Rattle.fields.specs.Blank.{blank, unblanked}
@@ -30,7 +32,6 @@ use Rattle.policies.specs.declared.Step.{Step}
 use Rattle.policies.specs.Texts.{printable, isText, isValue}
 use Rattle.policies.specs.Fields.{nameOf, valueOf, isLine, isVersion, modeOf, ageOf}
 use Rattle.policies.specs.Reader.{kindOf, heldMode, heldAge, holdsMode, holdsAge, newMode, newAge, takeVersion, takeMode, takeAge, takeMx, takeField, takeLine}
-use Rattle.policies.proofs.Lists.{all-drop, all-take}
 use Rattle.policies.proofs.Texts.{printable-text}
 
 -- `take_version`, `take_mode`, `take_age` and `take_mx`: r is what was seen before the value v
@@ -59,14 +60,14 @@ module _ (r : Seen) (v : List ℕ) where
       where
         go : (o : Option Mode) → heldMode o ≡ MaybeMode.Nothing → Step.Broken Cause.Mode ≡ newMode r o
         go none k = refl
-        go (some x) k = absurd (let z : _≡_ {A = ℕ} 0 1 = cc in omega arith)
+        go (some x) k = never cc
 
     pub mode-good : (x : Mode) → m ≡ MaybeMode.Is x → Step.Next (record { version = r .version; mode = m; age = r .age }) ≡ takeMode r v
     unfolding takeMode holdsMode heldMode newMode
     mode-good x e = let k : holdsMode (r .mode) ≡ false = rw h in rw k (go (modeOf v) g)
       where
         go : (o : Option Mode) → m ≡ heldMode o → Step.Next (record { version = r .version; mode = m; age = r .age }) ≡ newMode r o
-        go none k = absurd (let z : _≡_ {A = ℕ} 0 1 = cc in omega arith)
+        go none k = never cc
         go (some y) k = rw k
 
   pub age-had : (n : ℕ) → r .age ≡ MaybeAge.Is n → Step.Next r ≡ takeAge r v
@@ -80,14 +81,14 @@ module _ (r : Seen) (v : List ℕ) where
       where
         go : (o : Option ℕ) → heldAge o ≡ MaybeAge.Nothing → Step.Broken Cause.MaxAge ≡ newAge r o
         go none k = refl
-        go (some n) k = absurd (let z : _≡_ {A = ℕ} 0 1 = cc in omega arith)
+        go (some n) k = never cc
 
     pub age-good : (n : ℕ) → a ≡ MaybeAge.Is n → Step.Next (record { version = r .version; mode = r .mode; age = a }) ≡ takeAge r v
     unfolding takeAge holdsAge heldAge newAge
     age-good n e = let k : holdsAge (r .age) ≡ false = rw h in rw k (go (ageOf v) g)
       where
         go : (o : Option ℕ) → a ≡ heldAge o → Step.Next (record { version = r .version; mode = r .mode; age = a }) ≡ newAge r o
-        go none k = absurd (let z : _≡_ {A = ℕ} 0 1 = cc in omega arith)
+        go none k = never cc
         go (some m) k = rw k
 
 module _ (v : List ℕ) (b : Bool) (g : b ≡ isPattern v) where

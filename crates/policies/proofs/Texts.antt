@@ -11,10 +11,10 @@ use lib.Seq.{drop-drop}
 use borrow.Author.Needs.{needs}
 use borrow.Author.Tests.{not-true, not-false, lt-leb, le-leb, eq-eqb, ne-eqb}
 use Rattle.lists.specs.Bytes.{within, all}
-use Rattle.lists.proofs.Laws.{drop-next, take-rest}
+use Rattle.lists.proofs.Laws.{drop-next, take-rest, above-or-below}
+use Rattle.lists.proofs.Bools.{never}
 use Rattle.policies.specs.Texts.{utf8Tail, utf8Two, utf8Three, utf8Four, printable, isText, isValue}
 use Rattle.policies.specs.Reader.{sizeOf, sizeAt}
-use Rattle.policies.proofs.Lists.{above-or-below}
 
 pub tail-is : (b : ℕ) (r : Bool) → r ≡ within 128 191 b → r ≡ utf8Tail b
 unfolding utf8Tail
@@ -283,4 +283,4 @@ printable-text (x ∷ u) h = go (printable-text u) (printable x) refl h
   where
     go : (all printable u ≡ true → isText u ≡ true) → (t : Bool) → printable x ≡ t → (t && all printable u) ≡ true → isText (x ∷ u) ≡ true
     go ih true e k = text-plain x u e ∙ ih k
-    go ih false e k = absurd (let w : _≡_ {A = ℕ} 0 1 = cc in omega arith)
+    go ih false e k = never cc

@@ -8,15 +8,11 @@ use mathlib.Core.List.{List, [], _∷_}
 use mathlib.Core.Logic.{_⊎_, inl, inr, ⊎-elim}
 use native.Mathlib.Omega.{arith}
 use lib.Dec.{eqb, leb, ltb}
-use borrow.Author.Tests.{le-leb, eq-eqb, ltb-true, ltb-false, leb-true, eqb-true}
+use borrow.Author.Tests.{le-leb, eq-eqb, ltb-true, ltb-false, eqb-true}
 use Rattle.lists.specs.Bytes.{within, all}
 use Rattle.lists.proofs.Bools.{and-both}
+use Rattle.lists.proofs.Laws.{within-true}
 use Rattle.policies.specs.Texts.{utf8Tail, utf8Two, utf8Three, utf8Four, printable, isText}
-
-pub between : (lo hi b : ℕ) → within lo hi b ≡ true → (lo ≤ b) × (b ≤ hi)
-between lo hi b h =
-    let k = and-both (leb lo b) (leb b hi) h in
-    (leb-true lo b (k .0), leb-true b hi (k .1))
 
 -- where one of some tests holds
 one-of-three : (x y z : Bool) (P : Type 0) → (x ≡ true → P) → (y ≡ true → P) → (z ≡ true → P) → (x || y || z) ≡ true → P
@@ -30,7 +26,7 @@ one-of-four false x y z P f g i j h = one-of-three x y z P g i j h
 
 tail-between : (b : ℕ) → utf8Tail b ≡ true → (0x80 ≤ b) × (b ≤ 0xBF)
 unfolding utf8Tail
-tail-between b h = between 0x80 0xBF b h
+tail-between b h = within-true 0x80 0xBF b h
 
 equal-between : (k b : ℕ) → eqb b k ≡ true → (k ≤ b) × (b ≤ k)
 equal-between k b h =
@@ -43,7 +39,7 @@ module _ (a b : ℕ) (P : Type 0) where
   unfolding utf8Two
   two-ways h f =
       let k = and-both (within 0xC2 0xDF a) (utf8Tail b) h in
-      let x = between 0xC2 0xDF a (k .0) in
+      let x = within-true 0xC2 0xDF a (k .0) in
       let y = tail-between b (k .1) in
       f (x .0) (x .1) (y .0) (y .1)
 
@@ -66,10 +62,10 @@ module _ (a b : ℕ) (P : Type 0) where
         (eqb a 0xED && within 0x80 0x9F b && utf8Tail c)
         (within 0xEE 0xEF a && utf8Tail b && utf8Tail c)
         P
-        (three-way (eqb a 0xE0) (within 0xA0 0xBF b) 0xE0 0xE0 0xA0 0xBF (equal-between 0xE0 a) (between 0xA0 0xBF b) f)
-        (three-way (within 0xE1 0xEC a) (utf8Tail b) 0xE1 0xEC 0x80 0xBF (between 0xE1 0xEC a) (tail-between b) g)
-        (three-way (eqb a 0xED) (within 0x80 0x9F b) 0xED 0xED 0x80 0x9F (equal-between 0xED a) (between 0x80 0x9F b) i)
-        (three-way (within 0xEE 0xEF a) (utf8Tail b) 0xEE 0xEF 0x80 0xBF (between 0xEE 0xEF a) (tail-between b) j)
+        (three-way (eqb a 0xE0) (within 0xA0 0xBF b) 0xE0 0xE0 0xA0 0xBF (equal-between 0xE0 a) (within-true 0xA0 0xBF b) f)
+        (three-way (within 0xE1 0xEC a) (utf8Tail b) 0xE1 0xEC 0x80 0xBF (within-true 0xE1 0xEC a) (tail-between b) g)
+        (three-way (eqb a 0xED) (within 0x80 0x9F b) 0xED 0xED 0x80 0x9F (equal-between 0xED a) (within-true 0x80 0x9F b) i)
+        (three-way (within 0xEE 0xEF a) (utf8Tail b) 0xEE 0xEF 0x80 0xBF (within-true 0xEE 0xEF a) (tail-between b) j)
 
     module _ (d : ℕ) where
       abbrev Four : ℕ → ℕ → ℕ → ℕ → Type 0
@@ -88,9 +84,9 @@ module _ (a b : ℕ) (P : Type 0) where
           (within 0xF1 0xF3 a && utf8Tail b && utf8Tail c && utf8Tail d)
           (eqb a 0xF4 && within 0x80 0x8F b && utf8Tail c && utf8Tail d)
           P
-          (four-way (eqb a 0xF0) (within 0x90 0xBF b) 0xF0 0xF0 0x90 0xBF (equal-between 0xF0 a) (between 0x90 0xBF b) f)
-          (four-way (within 0xF1 0xF3 a) (utf8Tail b) 0xF1 0xF3 0x80 0xBF (between 0xF1 0xF3 a) (tail-between b) g)
-          (four-way (eqb a 0xF4) (within 0x80 0x8F b) 0xF4 0xF4 0x80 0x8F (equal-between 0xF4 a) (between 0x80 0x8F b) i)
+          (four-way (eqb a 0xF0) (within 0x90 0xBF b) 0xF0 0xF0 0x90 0xBF (equal-between 0xF0 a) (within-true 0x90 0xBF b) f)
+          (four-way (within 0xF1 0xF3 a) (utf8Tail b) 0xF1 0xF3 0x80 0xBF (within-true 0xF1 0xF3 a) (tail-between b) g)
+          (four-way (eqb a 0xF4) (within 0x80 0x8F b) 0xF4 0xF4 0x80 0x8F (equal-between 0xF4 a) (within-true 0x80 0x8F b) i)
 
 -- the code point that a sequence writes: the low bits of its bytes, six of each but the first
 abbrev pub pointOfTwo : ℕ → ℕ → ℕ
@@ -129,7 +125,7 @@ graphic b = leb 0x20 b
 
 printable-graphic : (a : ℕ) → printable a ≡ true → graphic a ≡ true
 unfolding printable
-printable-graphic a h = le-leb 0x20 a (between 0x20 0x7E a h .0)
+printable-graphic a h = le-leb 0x20 a (within-true 0x20 0x7E a h .0)
 
 two-graphic : (a b : ℕ) → utf8Two a b ≡ true → (graphic a && graphic b) ≡ true
 two-graphic a b h = two-ways a b ((graphic a && graphic b) ≡ true) h (λ s t u v. rw (le-leb 0x20 a (omega arith), le-leb 0x20 b (omega arith)))

@@ -1,20 +1,19 @@
 -- The ways out of the functions that read a name or a value. Assumes nothing.
 use Prim.Native.Nat.{ℕ, _+_, _*_, _-_, _^_, _<_, _≤_}
 use mathlib.Core.Path.{_≡_, refl, sym, ap, _∙_}
-use mathlib.Core.Bool.{Bool, true, false, cond, _&&_, and-false}
+use mathlib.Core.Bool.{Bool, true, false, cond, and-false}
 use mathlib.Core.List.{List}
 use native.Mathlib.Nat.{pow-suc, pow-le-pow-right}
 use native.Mathlib.Numerals.{add-one}
 use native.Mathlib.Omega.{arith}
-use lib.Dec.{leb}
 use lib.ListN.{length, getD, drop, drop-of-length-le}
 use borrow.Author.Needs.{needs}
-use borrow.Author.Tests.{not-true, not-false, lt-leb, le-leb, leb-true}
+use borrow.Author.Tests.{not-true, not-false, lt-leb, le-leb}
 use Rattle.lists.specs.Bytes.{within, all}
 use Rattle.lists.specs.Equal.{sameBytes}
 use Rattle.lists.specs.Text.{text}
 use Rattle.lists.proofs.All.{all-next, all-fail, all-end}
-use Rattle.lists.proofs.Laws.{drop-next}
+use Rattle.lists.proofs.Laws.{drop-next, within-true}
 use Rattle.policies.specs.declared.Kind.{Kind}
 use Rattle.policies.specs.declared.Mode.{Mode}
 use Rattle.policies.specs.declared.MaybeMode.{MaybeMode}
@@ -74,12 +73,7 @@ pub ruleset mode-laws = (mode-enforce, mode-testing, mode-none, mode-other, need
 -- a digit is between `0` and `9`
 pub digit-between : (b : ℕ) → isDigit b ≡ true → (48 ≤ b) × (b ≤ 57)
 unfolding isDigit
-digit-between b e = go (leb 48 b) (leb b 57) refl refl e
-  where
-    go : (t u : Bool) → leb 48 b ≡ t → leb b 57 ≡ u → (t && u) ≡ true → (48 ≤ b) × (b ≤ 57)
-    go true true p q k = (leb-true 48 b p, leb-true b 57 q)
-    go true false p q k = absurd (let z : _≡_ {A = ℕ} 0 1 = cc in omega arith)
-    go false u p q k = absurd (let z : _≡_ {A = ℕ} 0 1 = cc in omega arith)
+digit-between b e = within-true 48 57 b e
 
 -- `digit_of`: r is what `is_within` gave
 module _ (b : ℕ) (r : Bool) (g : r ≡ within 48 57 b) where

@@ -1,4 +1,3 @@
-pub mod General
 pub mod Strings
 pub mod Writing
 pub mod Candidates

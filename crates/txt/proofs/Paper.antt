@@ -1,11 +1,12 @@
 -- The reader reads exactly document 01's grammar, with its names and values: the grammar answers 6 exactly for the texts of a `Record`, and hands back its id.
 -- Assumes nothing.
-use Prim.Native.Nat.{ℕ, zero, suc, _+_, _-_}
+use Prim.Native.Nat.{ℕ, zero, suc}
 use mathlib.Core.Path.{_≡_, refl, sym, ap, subst, _∙_}
 use mathlib.Core.Bool.{Bool, true, false, cond, _&&_}
 use mathlib.Core.List.{List, [], _∷_, _++_, map, append-nil}
 use mathlib.Core.Option.{Option, none, some}
 use native.Mathlib.Omega.{arith}
+use native.Mathlib.Nat.{add-zero}
 use lib.Dec.{eqb, ltb}
 use lib.ListN.{length, take, drop, length-append, take-append-drop}
 use lib.Seq.{drop-append-seam, take-append-seam}
@@ -14,15 +15,14 @@ use Rattle.lists.specs.Bytes.{within, all}
 use Rattle.lists.specs.Equal.{sameBytes}
 use Rattle.lists.specs.Span.{spanOf, begins}
 use Rattle.lists.specs.Text.{text}
-use Rattle.lists.proofs.Bools.{and-left, and-right}
-use Rattle.lists.proofs.Span.{span-all}
+use Rattle.lists.proofs.Bools.{and-left, and-right, never}
+use Rattle.lists.proofs.Span.{span-all, begins-whole, begins-joined, span-append}
 use Rattle.fields.specs.Blank.{blank, afterBlanks}
 use Rattle.fields.specs.Name.{letterOrDigit, nameByte, isFieldName, hasName}
 use Rattle.fields.proofs.Name.{has-whole, has-name, written-before, written-after, written-has}
 use Rattle.txt.specs.Paper.{isBlanks, valueByte, isValue, isId, Pair, Rest, nothing, last, more, firstValue, Record}
 use Rattle.txt.specs.Grammar.{version, hasDelimiter, afterDelimiter, nameOf, afterName, valueOf, afterField, hasField, oneMore, fieldsIn, fieldsOf, firstNamed, idField}
 use Rattle.txt.specs.Txt.{graded, grammar, idPart}
-use Rattle.txt.proofs.General.{never, begins-whole, begins-joined, span-over}
 use Rattle.txt.proofs.Forms.{fields-none, last-delimiter, one-field}
 use Rattle.txt.proofs.Places.{HasId, has-id, id-has, id-value}
 
@@ -131,7 +131,7 @@ equals-no-name = refl
 
 blanks-over : (b x : List ℕ) → isBlanks b ≡ true → spanOf blank x ≡ 0 → afterBlanks (b ++ x) ≡ x
 unfolding isBlanks
-blanks-over b x h z = rw (span-over blank b x h z) (drop-append-seam b x)
+blanks-over b x h z = rw (span-append blank b x h, z, add-zero) (drop-append-seam b x)
 
 -- a name does not begin with a blank
 name-front : (n x : List ℕ) → isFieldName n ≡ true → spanOf blank (n ++ x) ≡ 0
@@ -178,7 +178,7 @@ module _ (n v r : List ℕ) (p : isFieldName n ≡ true) (q : isValue v ≡ true
 
   value-span : spanOf valueByte (v ++ r) ≡ length v
   unfolding isValue
-  value-span = span-over valueByte v r (and-right (ltb 0 (length v)) (all valueByte v) q) z
+  value-span = span-append valueByte v r (and-right (ltb 0 (length v)) (all valueByte v) q) ∙ rw (z, add-zero)
 
   name-after : afterName (n ++ (61 ∷ (v ++ r))) ≡ v ++ r
   unfolding afterName

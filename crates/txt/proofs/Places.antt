@@ -14,11 +14,11 @@ use Rattle.lists.specs.Span.{spanOf, begins}
 use Rattle.lists.specs.Split.{indexOf}
 use Rattle.lists.specs.Text.{text}
 use Rattle.lists.proofs.Span.{span-le}
+use Rattle.lists.proofs.Bools.{never}
 use Rattle.fields.specs.Blank.{blank}
 use Rattle.txt.specs.Paper.{valueByte, isId}
 use Rattle.txt.specs.Grammar.{version, hasDelimiter, afterDelimiter, nameOf, afterName, valueOf, afterField, hasField, oneMore, fieldsIn, fieldsOf, firstNamed, withId, idAmong, idField}
 use Rattle.txt.specs.Txt.{graded, idPart}
-use Rattle.txt.proofs.General.{never}
 
 -- ---- what an accepted text has: f is its field of the id
 

@@ -11,13 +11,13 @@ use borrow.Author.Tests.{not-true, not-false, le-leb, lt-leb}
 use Rattle.lists.specs.Span.{begins}
 use Rattle.lists.specs.Text.{text}
 use Rattle.numbers.specs.Numbers.{isWhole}
+use Rattle.lists.proofs.Span.{begins-front}
 use Rattle.txt.specs.declared.TxtAnswer.{TxtAnswer}
 use Rattle.txt.specs.declared.Found.{Found}
 use Rattle.txt.specs.Rdata.{isWireForm, joined}
 use Rattle.txt.specs.Grammar.{version}
 use Rattle.txt.specs.Txt.{isCandidate, Outcome, refused, wrote, chosen, outcome, refusal, grammar, answerOf, outputOf, readTxt, wroteTxt}
 use Rattle.txt.specs.Steps.{OneIs, SeenIs, FoundIs, wireFrom, candidatesFrom}
-use Rattle.txt.proofs.General.{begins-front}
 use Rattle.txt.proofs.Candidates.{wire-odd, wire-whole, found-start}
 
 -- a candidate begins with the version

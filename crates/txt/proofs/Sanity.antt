@@ -1,5 +1,5 @@
 -- What the definitions imply, for every input. Assumes nothing.
-use Prim.Native.Nat.{ℕ, zero, suc, _-_, _≤_}
+use Prim.Native.Nat.{ℕ, zero, suc, _≤_}
 use mathlib.Core.Path.{_≡_, refl, sym, ap, subst, _∙_}
 use mathlib.Core.Bool.{Bool, true, false, cond, _&&_, _||_}
 use mathlib.Core.List.{List, [], _∷_, _++_, append-nil}
@@ -10,13 +10,12 @@ use lib.ListN.{length, drop, length-append, length-drop, take-append-drop}
 use lib.Seq.{drop-append-seam, take-append-seam, length-take-le}
 use borrow.Author.Tests.{leb-true, le-leb, eqb-true}
 use Rattle.lists.specs.Bytes.{within}
-use Rattle.lists.proofs.Bools.{and-left, and-right}
+use Rattle.lists.proofs.Bools.{and-left, and-right, never}
 use Rattle.txt.specs.declared.TxtAnswer.{TxtAnswer}
 use Rattle.txt.specs.Paper.{Record}
 use Rattle.txt.specs.Rdata.{strings, stringsIn, stringsFit, fitIn, isWireForm, texts}
 use Rattle.txt.specs.Grammar.{valueOf, idField}
 use Rattle.txt.specs.Txt.{candidates, Outcome, refused, wrote, chosen, outcome, refusal, graded, grammar, answerOf, outputOf, readTxt, wroteTxt, idPart}
-use Rattle.txt.proofs.General.{never}
 use Rattle.txt.proofs.Strings.{strings-cons, fit-cons}
 use Rattle.txt.proofs.Places.{id-value}
 use Rattle.txt.proofs.Paper.{accepted, accepts, graded-six}

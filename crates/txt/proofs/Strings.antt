@@ -17,7 +17,7 @@ use Rattle.numbers.specs.Pieces.{endOf}
 use Rattle.numbers.proofs.Pieces.{end-take, end-drop, end-after, end-within}
 use Rattle.txt.specs.Rdata.{stringsIn, strings, fitIn, stringsFit, isRdata, joined}
 use Rattle.txt.specs.Txt.{isCandidate}
-use Rattle.txt.proofs.General.{never}
+use Rattle.lists.proofs.Bools.{never}
 
 -- ---- the strings one by one: the bound on how many are read is large enough
 

@@ -1,5 +1,5 @@
 -- `fields::past_blanks` meets its contract. Assumes nothing.
-use Prim.Native.Nat.{_≤_, _+_, _-_}
+use Prim.Native.Nat.{_+_, _-_}
 use mathlib.Core.Path.{_≡_}
 use lib.ListN.{length, drop}
 use Rattle.lists.specs.Span.{spanOf}
