@@ -1,20 +1,24 @@
--- The ways out of `dane_passes` and `shows_host`. Assumes nothing.
-use Prim.Native.Nat.{ℕ}
+-- The ways out of `set_match`, `dane_passes` and `shows_host`. Assumes nothing.
+use Prim.Native.Nat.{ℕ, _+_, _-_, _<_, _≤_}
 use mathlib.Core.Path.{_≡_, refl, sym, _∙_}
-use mathlib.Core.Bool.{Bool, true, false, _&&_, _||_}
-use mathlib.Core.List.{List}
+use mathlib.Core.Bool.{Bool, true, false, not, _&&_, _||_}
+use mathlib.Core.List.{List, _∷_}
 use native.Mathlib.Omega.{arith}
 use lib.Dec.{eqb}
-use lib.ListN.{length}
+use lib.ListN.{length, getD, take, drop}
 use borrow.Author.Needs.{needs}
 use borrow.Author.Tests.{not-true, not-false, lt-ltb}
 use Rattle.lists.specs.Bytes.{any}
 use Rattle.lists.proofs.Any.{any-more}
-use Rattle.lists.proofs.Bools.{apart}
+use Rattle.lists.proofs.Bools.{never, apart}
 use Rattle.numbers.specs.Numbers.{numbers}
+use Rattle.numbers.specs.Pieces.{cut, endOf}
+use Rattle.numbers.proofs.Pieces.{cut-next, cut-end, end-after, end-within}
 use Rattle.tlsa.specs.Record.{usageOf, counts}
 use Rattle.certificates.specs.Facts.{Certificate, certificatesOf, dnsIdsOf, commonNameOf, presentedOf}
 use Rattle.certificates.specs.Checks.{matchesCertificate, matchesOnPath, leafOf, afterLeaf, recordMatches, oneMatches, leafNames, someMatches, namesReference, danePasses, showsHost}
+use Rattle.certificates.specs.Steps.{passes, matchOf}
+use Rattle.certificates.specs.declared.Match.{Match}
 use Rattle.certificates.proofs.Limits.{certificates-count}
 
 -- what passes without names passes with them, and what passes by any names passes where the leaf names a reference
@@ -30,7 +34,80 @@ named-helps set certs named r h = go (counts set r) (eqb (usageOf r) 3) (eqb (us
     go true false false leaf n h = apart h
     go false three two leaf n h = h
 
--- `dane_passes`: x, y and b are what its calls gave
+-- what each kind of match says
+unnamed-is : (a b : Bool) → matchOf a b ≡ Match.Unnamed → a ≡ true
+unfolding matchOf
+unnamed-is true b h = refl
+unnamed-is false true h = never cc
+unnamed-is false false h = never cc
+
+named-is : (a b : Bool) → matchOf a b ≡ Match.Named → (a ≡ false) × (b ≡ true)
+unfolding matchOf
+named-is true b h = never cc
+named-is false true h = (refl, refl)
+named-is false false h = never cc
+
+nothing-is : (a b : Bool) → matchOf a b ≡ Match.Nothing → (a ≡ false) × (b ≡ false)
+unfolding matchOf
+nothing-is true b h = never cc
+nothing-is false true h = never cc
+nothing-is false false h = (refl, refl)
+
+-- the turns of `set_match`: a and b are whether the record at hand matches without names and with them, p whether it does while `wanted`; x and y are the same
+-- as a and b of the records behind it
+turn-unnamed : (a p x z : Bool) → matchOf a p ≡ Match.Unnamed → Match.Unnamed ≡ matchOf (a || x) z
+unfolding matchOf
+turn-unnamed a p x z h = rw (unnamed-is a p h)
+
+turn-named : (wanted a b p x y : Bool) → (wanted ≡ true → p ≡ b) → matchOf a p ≡ Match.Named → matchOf (a || x) (not wanted || (b || y)) ≡ matchOf x true
+turn-named true a b p x y s h = let w = named-is a p h in rw (w .0, ← s refl, w .1)
+turn-named false a b p x y s h = rw (named-is a p h .0)
+
+turn-nothing : (wanted a b p x y : Bool) → (wanted ≡ true → p ≡ b) → matchOf a p ≡ Match.Nothing → matchOf (a || x) (not wanted || (b || y)) ≡ matchOf x (not wanted || y)
+turn-nothing true a b p x y s h = let w = nothing-is a p h in rw (w .0, ← s refl, w .1)
+turn-nothing false a b p x y s h = rw (nothing-is a p h .0)
+
+-- `set_match`: m is what `record_match` gave of the record at hand
+module _ (certs : List Certificate) (s ns : List ℕ) (wanted : Bool) (at k n : ℕ) (inv : matchOf (any (passes false certs) (cut s ns)) (any (passes true certs) (cut s ns)) ≡ matchOf (any (passes false certs) (cut (drop at s) (drop k ns))) (not wanted || any (passes true certs) (cut (drop at s) (drop k ns)))) (counted : n ≡ length ns) where
+  pub set-none : n ≤ k → wanted ≡ true → Match.Nothing ≡ matchOf (any (passes false certs) (cut s ns)) (any (passes true certs) (cut s ns))
+  unfolding any matchOf
+  set-none h o = let g : length ns ≤ k = omega arith in sym (inv ∙ rw (cut-end s ns at k g, o))
+
+  pub set-left-named : n ≤ k → wanted ≡ false → Match.Named ≡ matchOf (any (passes false certs) (cut s ns)) (any (passes true certs) (cut s ns))
+  unfolding any matchOf
+  set-left-named h o = let g : length ns ≤ k = omega arith in sym (inv ∙ rw (cut-end s ns at k g, o))
+
+  module _ (h : k < n) (w : at ≤ length s) (e : ℕ) (ends : e ≡ endOf (length s) at (getD ns k 0)) (m : Match) (gave : m ≡ matchOf (passes false certs (take (e - at) (drop at s))) (passes wanted certs (take (e - at) (drop at s)))) where
+    here : cut (drop at s) (drop k ns) ≡ take (e - at) (drop at s) ∷ cut (drop e s) (drop (k + 1) ns)
+    here = cut-next s ns at k e ends w (omega arith)
+
+    while-wanted : wanted ≡ true → passes wanted certs (take (e - at) (drop at s)) ≡ passes true certs (take (e - at) (drop at s))
+    while-wanted o = rw o
+
+    pub set-unnamed : m ≡ Match.Unnamed → Match.Unnamed ≡ matchOf (any (passes false certs) (cut s ns)) (any (passes true certs) (cut s ns))
+    unfolding any
+    set-unnamed q =
+        turn-unnamed (passes false certs (take (e - at) (drop at s))) (passes wanted certs (take (e - at) (drop at s))) (any (passes false certs) (cut (drop e s) (drop (k + 1) ns)))
+        (not wanted || (passes true certs (take (e - at) (drop at s)) || any (passes true certs) (cut (drop e s) (drop (k + 1) ns)))) (sym gave ∙ q)
+        ∙ sym (rw here at inv)
+
+    pub set-named : m ≡ Match.Named → matchOf (any (passes false certs) (cut s ns)) (any (passes true certs) (cut s ns)) ≡ matchOf (any (passes false certs) (cut (drop e s) (drop (k + 1) ns))) true
+    unfolding any
+    set-named q =
+        (rw here at inv)
+        ∙ turn-named wanted (passes false certs (take (e - at) (drop at s))) (passes true certs (take (e - at) (drop at s))) (passes wanted certs (take (e - at) (drop at s)))
+        (any (passes false certs) (cut (drop e s) (drop (k + 1) ns))) (any (passes true certs) (cut (drop e s) (drop (k + 1) ns))) while-wanted (sym gave ∙ q)
+
+    pub set-nothing : m ≡ Match.Nothing → matchOf (any (passes false certs) (cut s ns)) (any (passes true certs) (cut s ns)) ≡ matchOf (any (passes false certs) (cut (drop e s) (drop (k + 1) ns))) (not wanted || any (passes true certs) (cut (drop e s) (drop (k + 1) ns)))
+    unfolding any
+    set-nothing q =
+        (rw here at inv)
+        ∙ turn-nothing wanted (passes false certs (take (e - at) (drop at s))) (passes true certs (take (e - at) (drop at s))) (passes wanted certs (take (e - at) (drop at s)))
+        (any (passes false certs) (cut (drop e s) (drop (k + 1) ns))) (any (passes true certs) (cut (drop e s) (drop (k + 1) ns))) while-wanted (sym gave ∙ q)
+
+pub ruleset set-laws = (set-none, set-left-named, set-unnamed, set-named, set-nothing, end-after, end-within, needs)
+
+-- `dane_passes`: m and b are what its calls gave
 module _ (set : List (List ℕ)) (certs : List Certificate) where
   by-names : (named : Bool) → oneMatches false set certs ≡ false → oneMatches true set certs ≡ true → oneMatches named set certs ≡ named
   by-names true x y = y
@@ -40,23 +117,34 @@ module _ (set : List (List ℕ)) (certs : List Certificate) where
   unmatched true x y = y
   unmatched false x y = x
 
-module _ (refs set : List (List ℕ)) (C L P D Q : List ℕ) (root : Bool) (I X : List ℕ) (given : Bool) (N : List ℕ) where
+module _ (refs set : List (List ℕ)) (C L P D Q : List ℕ) (root : Bool) (I X : List ℕ) (given : Bool) (N : List ℕ) (m : Match) (me : m ≡ matchOf (any (passes false (certificatesOf C L P D Q)) set) (any (passes true (certificatesOf C L P D Q)) set)) where
   says : danePasses refs set (presentedOf C L P D Q root I X given N) ≡ oneMatches (any (someMatches (leafNames (dnsIdsOf I X) (commonNameOf given N))) refs) set (certificatesOf C L P D Q)
   unfolding danePasses namesReference presentedOf
   says = refl
 
-  module _ (x : Bool) (xe : x ≡ oneMatches false set (certificatesOf C L P D Q)) where
-    pub dane-unnamed : x ≡ true → true ≡ danePasses refs set (presentedOf C L P D Q root I X given N)
-    dane-unnamed t = sym (says ∙ any-more (λ (r : List ℕ). counts set r && recordMatches false (certificatesOf C L P D Q) r) (λ (r : List ℕ). counts set r && recordMatches (any (someMatches (leafNames (dnsIdsOf I X) (commonNameOf given N))) refs) (certificatesOf C L P D Q) r) (named-helps set (certificatesOf C L P D Q) (any (someMatches (leafNames (dnsIdsOf I X) (commonNameOf given N))) refs)) set (sym xe ∙ t))
+  by-one : m ≡ matchOf (oneMatches false set (certificatesOf C L P D Q)) (oneMatches true set (certificatesOf C L P D Q))
+  unfolding passes
+  by-one = me
 
-    module _ (xf : x ≡ false) (y : Bool) (ye : y ≡ oneMatches true set (certificatesOf C L P D Q)) where
-      pub dane-unmatched : y ≡ false → false ≡ danePasses refs set (presentedOf C L P D Q root I X given N)
-      dane-unmatched f = sym (says ∙ unmatched set (certificatesOf C L P D Q) (any (someMatches (leafNames (dnsIdsOf I X) (commonNameOf given N))) refs) (sym xe ∙ xf) (sym ye ∙ f))
+  pub dane-unnamed : m ≡ Match.Unnamed → true ≡ danePasses refs set (presentedOf C L P D Q root I X given N)
+  dane-unnamed q =
+      let named = any (someMatches (leafNames (dnsIdsOf I X) (commonNameOf given N))) refs in
+      let certs = certificatesOf C L P D Q in
+      sym (says ∙ any-more (λ (r : List ℕ). counts set r && recordMatches false certs r) (λ (r : List ℕ). counts set r && recordMatches named certs r) (named-helps set certs named) set (unnamed-is (oneMatches false set certs) (oneMatches true set certs) (sym by-one ∙ q)))
 
-      pub dane-named : y ≡ true → (b : Bool) → b ≡ any (someMatches (leafNames (dnsIdsOf I X) (commonNameOf given N))) refs → b ≡ danePasses refs set (presentedOf C L P D Q root I X given N)
-      dane-named t b be = be ∙ sym (says ∙ by-names set (certificatesOf C L P D Q) (any (someMatches (leafNames (dnsIdsOf I X) (commonNameOf given N))) refs) (sym xe ∙ xf) (sym ye ∙ t))
+  pub dane-unmatched : m ≡ Match.Nothing → false ≡ danePasses refs set (presentedOf C L P D Q root I X given N)
+  dane-unmatched q =
+      let certs = certificatesOf C L P D Q in
+      let w = nothing-is (oneMatches false set certs) (oneMatches true set certs) (sym by-one ∙ q) in
+      sym (says ∙ unmatched set certs (any (someMatches (leafNames (dnsIdsOf I X) (commonNameOf given N))) refs) (w .0) (w .1))
 
-pub ruleset dane-laws = (dane-unnamed, dane-unmatched, dane-named, not-true, not-false, needs)
+  pub dane-named : m ≡ Match.Named → (b : Bool) → b ≡ any (someMatches (leafNames (dnsIdsOf I X) (commonNameOf given N))) refs → b ≡ danePasses refs set (presentedOf C L P D Q root I X given N)
+  dane-named q b be =
+      let certs = certificatesOf C L P D Q in
+      let w = named-is (oneMatches false set certs) (oneMatches true set certs) (sym by-one ∙ q) in
+      be ∙ sym (says ∙ by-names set certs (any (someMatches (leafNames (dnsIdsOf I X) (commonNameOf given N))) refs) (w .0) (w .1))
+
+pub ruleset dane-laws = (dane-unnamed, dane-unmatched, dane-named, needs)
 
 -- `shows_host`: n is what `count` gave, r what `has_dns_id` gave
 module _ (host C L P D Q : List ℕ) (root : Bool) (I X : List ℕ) (given : Bool) (N : List ℕ) where

@@ -1,3 +1,4 @@
 pub mod Facts
 pub mod Limits
 pub mod Checks
+pub mod Steps

@@ -1,19 +1,20 @@
 // Certificate facts: their limits, and what DANE and MTA-STS ask of them (RFC 7672, RFC 8461).
 ghost use mathlib.Core.Path.{_≡_};
-ghost use mathlib.Core.Bool.{_&&_, _||_};
+ghost use mathlib.Core.Bool.{true, false};
 ghost use mathlib.Core.List.{List, []};
-ghost use Prim.Native.Nat.{ℕ, _+_, _*_, _≤_};
-ghost use lib.Dec.{eqb};
+ghost use Prim.Native.Nat.{ℕ, _+_, _*_, _-_, _<_, _≤_};
+ghost use lib.Dec.{eqb, leb};
 ghost use lib.ListN.{length, getD, take, drop};
 ghost use Rattle.lists.specs.Bytes.{all, any};
 ghost use Rattle.lists.specs.Equal.{sameBytes};
 ghost use Rattle.numbers.specs.Numbers.{numbers};
 ghost use Rattle.names.specs.Scan.{coversName};
-ghost use Rattle.tlsa.specs.Record.{usable};
+ghost use Rattle.tlsa.specs.Record.{matchingTypeOf, usable};
 ghost use Rattle.tlsa.specs.Answer.{recordsOf};
 ghost use Rattle.certificates.specs.Facts.{digestAt, certificateAt, certificatesOf, dnsIdsOf, commonNameOf, presentedOf};
-ghost use Rattle.certificates.specs.Limits.{certificateFits, oneForEach, chainFits, namesFit, factsFit, yesNo};
-ghost use Rattle.certificates.specs.Checks.{compared, matchesCertificate, matchesOnPath, leafOf, afterLeaf, recordMatches, oneMatches, references, leafNames, someMatches, danePasses, showsHost};
+ghost use Rattle.certificates.specs.Limits.{oneForEach, chainFits, namesFit, factsFit, yesNo};
+ghost use Rattle.certificates.specs.Steps.{digestStart, digestOnPath, anyPlace, passes, matchOf, placesFit};
+ghost use Rattle.certificates.specs.Checks.{compared, matchesCertificate, matchesOnPath, leafOf, afterLeaf, references, leafNames, someMatches, danePasses, showsHost};
 
 // The origin of the host list: secure MX, insecure MX, or no MX, where the host is the next-hop itself.
 pub enum Origin {
@@ -22,15 +23,79 @@ pub enum Origin {
     NoMx,
 }
 
-// Of the 192 bytes of digests of the certificate at place k, the n bytes from the byte `from` on.
-fn digest_at(digests: &[u8], k: usize, from: u8, n: u64) -> &[u8]
-    ensures { λ r. ⌜ now r ≡ digestAt (now (digests .entry)) k from n ⌝ }
+// How a record, or a set of them, matches the certificates: without names, only with the leaf naming a reference, or not.
+enum Match {
+    Unnamed,
+    Named,
+    Nothing,
+}
+
+// Where the digest starts that a record of this selector and matching type, 1 or 2, is compared with, among the 192 bytes of digests of a certificate.
+fn digest_start(selector: u8, matching_type: u8) -> u8
+    ensures { λ r. ⌜ r ≡ digestStart selector «matching_type» ⌝ }
+{
+    if selector == 0 {
+        if matching_type == 1 {
+            return 0;
+        }
+        return 32;
+    }
+    if matching_type == 1 {
+        return 96;
+    }
+    128
+}
+
+// Whether `held` is the digest that starts at the byte `from` of those of the certificate at place k.
+fn is_digest(held: &[u8], from: u8, k: usize, digests: &[u8]) -> bool
+    requires { ⌜ (1 ≤ length (now held)) × (length (now held) ≤ 64) ⌝ }
+    ensures { λ r. ⌜ r ≡ sameBytes (now (held .entry)) (digestAt (now (digests .entry)) k from (length (now (held .entry)))) ⌝ }
 {
     if digests.len() / 192 < k {
-        return &digests[0..0];
+        return false;
     }
     let start = k * 192 + (from as usize);
-    numbers::part(digests, start, n)
+    let end = start + held.len();
+    if digests.len() < end {
+        return false;
+    }
+    lists::equal(held, &digests[start..end])
+}
+
+// Whether the path flag of the certificate at place k holds.
+fn is_on_path(k: usize, paths: &[u8]) -> bool
+    ensures { λ r. ⌜ r ≡ eqb (getD (numbers (now (paths .entry))) k 0) 1 ⌝ }
+{
+    let path = numbers::number(paths, k);
+    path == 1
+}
+
+// Whether the path flag of the certificate at place k holds, and `held` is a digest of it.
+fn is_digest_on_path(held: &[u8], from: u8, k: usize, digests: &[u8], paths: &[u8]) -> bool
+    requires { ⌜ (1 ≤ length (now held)) × (length (now held) ≤ 64) ⌝ }
+    ensures { λ r. ⌜ r ≡ digestOnPath (now (held .entry)) from (now (digests .entry)) (now (paths .entry)) k ⌝ }
+{
+    let on_path = is_on_path(k, paths);
+    if !on_path {
+        return false;
+    }
+    is_digest(held, from, k, digests)
+}
+
+// Whether that holds of one of n certificates, after the leaf. The certificates themselves are not looked at.
+fn is_digest_after_leaf(held: &[u8], from: u8, n: usize, digests: &[u8], paths: &[u8]) -> bool
+    requires { ⌜ (1 ≤ length (now held)) × (length (now held) ≤ 64) ⌝ }
+    ensures { λ r. ⌜ r ≡ anyPlace (digestOnPath (now (held .entry)) from (now (digests .entry)) (now (paths .entry))) 1 (n - 1) ⌝ }
+{
+    let mut place = 1;
+    while place < n {
+        let hit = is_digest_on_path(held, from, place, digests, paths);
+        if hit {
+            return true;
+        }
+        place += 1;
+    }
+    false
 }
 
 // Where the key info of the certificate at place k starts.
@@ -62,113 +127,47 @@ fn key_info_at<'a>(k: usize, certificate: &'a [u8], places: &[u8]) -> &'a [u8]
     numbers::part(certificate, start as usize, size)
 }
 
-// Whether `held` is what a record of this selector and matching type is compared with, of the certificate at place k. No path flag is read.
-fn is_compared(
-    held: &[u8],
-    selector: u8,
-    matching_type: u8,
-    k: usize,
-    certificate: &[u8],
-    places: &[u8],
-    digests: &[u8],
-) -> bool
-    ensures { λ r. ⌜ r ≡ sameBytes (now (held .entry)) (compared selector «matching_type» (certificateAt (now (places .entry)) (now (digests .entry)) [] k (now (certificate .entry)))) ⌝ }
+// Whether `held` is the certificate at place k (selector 0) or its key info: what a record of matching type 0 is compared with.
+fn is_compared(held: &[u8], selector: u8, k: usize, certificate: &[u8], places: &[u8]) -> bool
+    ensures { λ r. ⌜ r ≡ sameBytes (now (held .entry)) (compared selector 0 (certificateAt (now (places .entry)) [] [] k (now (certificate .entry)))) ⌝ }
 {
     if selector == 0 {
-        if matching_type == 0 {
-            return lists::equal(held, certificate);
-        }
-        if matching_type == 1 {
-            let sha256 = digest_at(digests, k, 0, 32);
-            return lists::equal(held, sha256);
-        }
-        let sha512 = digest_at(digests, k, 32, 64);
-        return lists::equal(held, sha512);
+        return lists::equal(held, certificate);
     }
-    if matching_type == 0 {
-        let info = key_info_at(k, certificate, places);
-        return lists::equal(held, info);
-    }
-    if matching_type == 1 {
-        let key_sha256 = digest_at(digests, k, 96, 32);
-        return lists::equal(held, key_sha256);
-    }
-    let key_sha512 = digest_at(digests, k, 128, 64);
-    lists::equal(held, key_sha512)
+    let info = key_info_at(k, certificate, places);
+    lists::equal(held, info)
 }
 
-// Whether the record matches the certificate at place k. No path flag is read.
-fn matches_certificate(
-    entry: &[u8],
-    k: usize,
-    certificate: &[u8],
-    places: &[u8],
-    digests: &[u8],
-) -> bool
-    requires { ⌜ 3 ≤ length (now entry) ⌝ }
-    ensures { λ r. ⌜ r ≡ matchesCertificate (now (entry .entry)) (certificateAt (now (places .entry)) (now (digests .entry)) [] k (now (certificate .entry))) ⌝ }
+// Whether the record, of matching type 0, matches the certificate at place k. No path flag is read.
+fn matches_certificate(entry: &[u8], k: usize, certificate: &[u8], places: &[u8]) -> bool
+    requires { ⌜ (3 ≤ length (now entry)) × (matchingTypeOf (now entry) ≡ 0) ⌝ }
+    ensures { λ r. ⌜ r ≡ matchesCertificate (now (entry .entry)) (certificateAt (now (places .entry)) [] [] k (now (certificate .entry))) ⌝ }
 {
-    is_compared(
-        &entry[3..],
-        entry[1],
-        entry[2],
-        k,
-        certificate,
-        places,
-        digests,
-    )
+    is_compared(&entry[3..], entry[1], k, certificate, places)
 }
 
-// Whether the path flag of the certificate at place k holds, and the record matches it.
-fn matches_on_path(
-    entry: &[u8],
-    k: usize,
-    certificate: &[u8],
-    places: &[u8],
-    digests: &[u8],
-    paths: &[u8],
-) -> bool
-    requires { ⌜ 3 ≤ length (now entry) ⌝ }
-    ensures { λ r. ⌜ r ≡ matchesOnPath (now (entry .entry)) (certificateAt (now (places .entry)) (now (digests .entry)) (now (paths .entry)) k (now (certificate .entry))) ⌝ }
+// Whether the path flag of the certificate at place k holds, and the record, of matching type 0, matches it.
+fn matches_on_path(entry: &[u8], k: usize, certificate: &[u8], places: &[u8], paths: &[u8]) -> bool
+    requires { ⌜ (3 ≤ length (now entry)) × (matchingTypeOf (now entry) ≡ 0) ⌝ }
+    ensures { λ r. ⌜ r ≡ matchesOnPath (now (entry .entry)) (certificateAt (now (places .entry)) [] (now (paths .entry)) k (now (certificate .entry))) ⌝ }
 {
-    let path = numbers::number(paths, k);
-    if path != 1 {
+    let on_path = is_on_path(k, paths);
+    if !on_path {
         return false;
     }
-    matches_certificate(entry, k, certificate, places, digests)
+    matches_certificate(entry, k, certificate, places)
 }
 
-// Whether the record matches the leaf.
-fn matches_leaf(
+// Whether the record, of matching type 0, matches a certificate after the leaf whose path flag holds.
+fn whole_after_leaf(
     entry: &[u8],
     certificates: &[u8],
     lengths: &[u8],
     places: &[u8],
-    digests: &[u8],
     paths: &[u8],
 ) -> bool
-    requires { ⌜ 3 ≤ length (now entry) ⌝ }
-    ensures { λ r. ⌜ r ≡ any (matchesCertificate (now (entry .entry))) (leafOf (certificatesOf (now (certificates .entry)) (now (lengths .entry)) (now (places .entry)) (now (digests .entry)) (now (paths .entry)))) ⌝ }
-{
-    let n = numbers::count(lengths);
-    if n == 0 {
-        return false;
-    }
-    let e = numbers::end_at(lengths, 0, 0, certificates.len());
-    matches_certificate(entry, 0, &certificates[0..e], places, digests)
-}
-
-// Whether the record matches a certificate after the leaf whose path flag holds.
-fn matches_after_leaf(
-    entry: &[u8],
-    certificates: &[u8],
-    lengths: &[u8],
-    places: &[u8],
-    digests: &[u8],
-    paths: &[u8],
-) -> bool
-    requires { ⌜ 3 ≤ length (now entry) ⌝ }
-    ensures { λ r. ⌜ r ≡ any (matchesOnPath (now (entry .entry))) (afterLeaf (certificatesOf (now (certificates .entry)) (now (lengths .entry)) (now (places .entry)) (now (digests .entry)) (now (paths .entry)))) ⌝ }
+    requires { ⌜ (3 ≤ length (now entry)) × (matchingTypeOf (now entry) ≡ 0) ⌝ }
+    ensures { λ r. ⌜ r ≡ any (matchesOnPath (now (entry .entry))) (afterLeaf (certificatesOf (now (certificates .entry)) (now (lengths .entry)) (now (places .entry)) [] (now (paths .entry)))) ⌝ }
 {
     let n = numbers::count(lengths);
     if n == 0 {
@@ -178,7 +177,7 @@ fn matches_after_leaf(
     let mut k = 1;
     while k < n {
         let e = numbers::end_at(lengths, k, at, certificates.len());
-        let hit = matches_on_path(entry, k, &certificates[at..e], places, digests, paths);
+        let hit = matches_on_path(entry, k, &certificates[at..e], places, paths);
         if hit {
             return true;
         }
@@ -188,74 +187,129 @@ fn matches_after_leaf(
     false
 }
 
-// Whether names are no hindrance to a record of this usage: usage 3 asks for none. `named`: whether the leaf names a reference.
-fn is_named_enough(usage: u8, named: bool) -> bool
-    ensures { λ r. ⌜ r ≡ (eqb usage 3 || named) ⌝ }
-{
-    usage == 3 || named
-}
-
-// Whether the record is usable and matches.
-fn record_passes(
+// Whether the record, a usable one, matches the leaf.
+fn matches_leaf(
     entry: &[u8],
-    named: bool,
     certificates: &[u8],
     lengths: &[u8],
     places: &[u8],
     digests: &[u8],
     paths: &[u8],
 ) -> bool
-    ensures { λ r. ⌜ r ≡ (usable (now (entry .entry)) && recordMatches named (certificatesOf (now (certificates .entry)) (now (lengths .entry)) (now (places .entry)) (now (digests .entry)) (now (paths .entry))) (now (entry .entry))) ⌝ }
+    requires { ⌜ usable (now entry) ≡ true ⌝ }
+    ensures { λ r. ⌜ r ≡ any (matchesCertificate (now (entry .entry))) (leafOf (certificatesOf (now (certificates .entry)) (now (lengths .entry)) (now (places .entry)) (now (digests .entry)) (now (paths .entry)))) ⌝ }
+{
+    let n = numbers::count(lengths);
+    if n == 0 {
+        return false;
+    }
+    let matching_type = entry[2];
+    if matching_type != 0 {
+        let from = digest_start(entry[1], matching_type);
+        return is_digest(&entry[3..], from, 0, digests);
+    }
+    let e = numbers::end_at(lengths, 0, 0, certificates.len());
+    matches_certificate(entry, 0, &certificates[0..e], places)
+}
+
+// Whether the record, a usable one, matches a certificate after the leaf whose path flag holds.
+fn matches_after_leaf(
+    entry: &[u8],
+    certificates: &[u8],
+    lengths: &[u8],
+    places: &[u8],
+    digests: &[u8],
+    paths: &[u8],
+) -> bool
+    requires { ⌜ usable (now entry) ≡ true ⌝ }
+    ensures { λ r. ⌜ r ≡ any (matchesOnPath (now (entry .entry))) (afterLeaf (certificatesOf (now (certificates .entry)) (now (lengths .entry)) (now (places .entry)) (now (digests .entry)) (now (paths .entry)))) ⌝ }
+{
+    let matching_type = entry[2];
+    if matching_type == 0 {
+        return whole_after_leaf(entry, certificates, lengths, places, paths);
+    }
+    let from = digest_start(entry[1], matching_type);
+    let n = numbers::count(lengths);
+    is_digest_after_leaf(&entry[3..], from, n, digests, paths)
+}
+
+// How the record matches: usage 3 without names, usage 2 with them, and only while `wanted`; a record that is not usable does not.
+fn record_match(
+    entry: &[u8],
+    wanted: bool,
+    certificates: &[u8],
+    lengths: &[u8],
+    places: &[u8],
+    digests: &[u8],
+    paths: &[u8],
+) -> Match
+    ensures { λ r. ⌜ r ≡ matchOf (passes false (certificatesOf (now (certificates .entry)) (now (lengths .entry)) (now (places .entry)) (now (digests .entry)) (now (paths .entry))) (now (entry .entry))) (passes wanted (certificatesOf (now (certificates .entry)) (now (lengths .entry)) (now (places .entry)) (now (digests .entry)) (now (paths .entry))) (now (entry .entry))) ⌝ }
 {
     let usable = tlsa::is_usable(entry);
     if !usable {
-        return false;
+        return Match::Nothing;
     }
-    let usage = entry[0];
-    let enough = is_named_enough(usage, named);
-    if !enough {
-        return false;
+    if entry[0] == 3 {
+        let leaf = matches_leaf(entry, certificates, lengths, places, digests, paths);
+        if !leaf {
+            return Match::Nothing;
+        }
+        return Match::Unnamed;
     }
-    if usage == 3 {
-        return matches_leaf(entry, certificates, lengths, places, digests, paths);
+    if !wanted {
+        return Match::Nothing;
     }
-    matches_after_leaf(entry, certificates, lengths, places, digests, paths)
+    let after = matches_after_leaf(entry, certificates, lengths, places, digests, paths);
+    if !after {
+        return Match::Nothing;
+    }
+    Match::Named
 }
 
-// Whether some record of the set counts and matches.
-fn some_passes(
+// How the set matches. It is gone through once: after a match by usage 2, only usage 3 can still do without names.
+fn set_match(
     sizes: &[u8],
     records: &[u8],
-    named: bool,
     certificates: &[u8],
     lengths: &[u8],
     places: &[u8],
     digests: &[u8],
     paths: &[u8],
-) -> bool
-    ensures { λ r. ⌜ r ≡ oneMatches named (recordsOf (now (sizes .entry)) (now (records .entry))) (certificatesOf (now (certificates .entry)) (now (lengths .entry)) (now (places .entry)) (now (digests .entry)) (now (paths .entry))) ⌝ }
+) -> Match
+    ensures { λ r. ⌜ r ≡ matchOf (any (passes false (certificatesOf (now (certificates .entry)) (now (lengths .entry)) (now (places .entry)) (now (digests .entry)) (now (paths .entry)))) (recordsOf (now (sizes .entry)) (now (records .entry)))) (any (passes true (certificatesOf (now (certificates .entry)) (now (lengths .entry)) (now (places .entry)) (now (digests .entry)) (now (paths .entry)))) (recordsOf (now (sizes .entry)) (now (records .entry)))) ⌝ }
 {
     let n = numbers::count(sizes);
+    let mut wanted = true;
     let mut at = 0;
     let mut k = 0;
     while k < n {
         let e = numbers::end_at(sizes, k, at, records.len());
-        let hit = record_passes(
+        let found = record_match(
             &records[at..e],
-            named,
+            wanted,
             certificates,
             lengths,
             places,
             digests,
             paths,
         );
-        if hit {
-            return true;
+        match found {
+            Match::Unnamed => return Match::Unnamed,
+            Match::Named => {
+                wanted = false;
+                at = e;
+                k += 1;
+            }
+            Match::Nothing => {
+                at = e;
+                k += 1;
+            }
         }
-        at = e;
-        k += 1;
     }
-    false // no record matched, so nobody is authenticated
+    if wanted {
+        return Match::Nothing; // no record matched, so nobody is authenticated
+    }
+    Match::Named
 }
 
 // Whether some DNS-ID covers the name: for a name, whether it matches.
@@ -351,41 +405,28 @@ pub fn dane_passes(
 ) -> bool
     ensures { λ r. ⌜ r ≡ danePasses (references origin (now (domain .entry)) (now («next_hop» .entry))) (recordsOf (now (lengths .entry)) (now (records .entry))) (presentedOf (now (certificates .entry)) (now («certificate_lengths» .entry)) (now («key_places» .entry)) (now (digests .entry)) (now (paths .entry)) «trusted_root» (now («dns_ids» .entry)) (now («dns_id_lengths» .entry)) «common_name_given» (now («common_name» .entry))) ⌝ }
 {
-    let without_names = some_passes(
+    let found = set_match(
         lengths,
         records,
-        false,
         certificates,
         certificate_lengths,
         key_places,
         digests,
         paths,
     );
-    if without_names {
-        return true;
+    match found {
+        Match::Unnamed => true,
+        Match::Named => names_reference(
+            origin,
+            domain,
+            next_hop,
+            dns_ids,
+            dns_id_lengths,
+            common_name_given,
+            common_name,
+        ),
+        Match::Nothing => false,
     }
-    let with_names = some_passes(
-        lengths,
-        records,
-        true,
-        certificates,
-        certificate_lengths,
-        key_places,
-        digests,
-        paths,
-    );
-    if !with_names {
-        return false;
-    }
-    names_reference(
-        origin,
-        domain,
-        next_hop,
-        dns_ids,
-        dns_id_lengths,
-        common_name_given,
-        common_name,
-    )
 }
 
 // Whether the certificate facts pass what MTA-STS asks of them for the host.
@@ -414,35 +455,28 @@ pub fn shows_host(
     has_dns_id(dns_ids, dns_id_lengths, host)
 }
 
-// Whether the certificate at place k keeps the limits of one.
-fn certificate_fits(k: usize, certificate: &[u8], places: &[u8]) -> bool
-    ensures { λ r. ⌜ r ≡ certificateFits (certificateAt (now (places .entry)) [] [] k (now (certificate .entry))) ⌝ }
+// Whether the place of the key info at place k lies inside a certificate of so many bytes.
+fn is_inside(bytes: u64, k: usize, places: &[u8]) -> bool
+    requires { ⌜ k < 8 ⌝ }
+    ensures { λ r. ⌜ r ≡ leb (getD (numbers (now (places .entry))) (k * 2) 0 + getD (numbers (now (places .entry))) (k * 2 + 1) 0) bytes ⌝ }
 {
-    if 16384 < certificate.len() {
-        return false;
-    }
-    let start = key_start(places, k) as usize;
-    let size = key_length(places, k) as usize;
-    if certificate.len() < start {
-        return false;
-    }
-    size <= certificate.len() - start
+    let start = numbers::number(places, k * 2);
+    let size = numbers::number(places, k * 2 + 1);
+    start + size <= bytes
 }
 
-// Whether each certificate does.
-fn all_fit(certificates: &[u8], lengths: &[u8], places: &[u8], digests: &[u8], paths: &[u8]) -> bool
-    ensures { λ r. ⌜ r ≡ all certificateFits (certificatesOf (now (certificates .entry)) (now (lengths .entry)) (now (places .entry)) (now (digests .entry)) (now (paths .entry))) ⌝ }
+// Whether each place does, of n certificates of these lengths.
+fn places_fit(n: usize, lengths: &[u8], places: &[u8]) -> bool
+    requires { ⌜ (n ≤ 8) × (n ≡ length (numbers (now lengths))) ⌝ }
+    ensures { λ r. ⌜ r ≡ placesFit (numbers (now (places .entry))) 0 (numbers (now (lengths .entry))) ⌝ }
 {
-    let n = numbers::count(lengths);
-    let mut at = 0;
     let mut k = 0;
     while k < n {
-        let e = numbers::end_at(lengths, k, at, certificates.len());
-        let fits = certificate_fits(k, &certificates[at..e], places);
-        if !fits {
+        let bytes = numbers::number(lengths, k);
+        let inside = is_inside(bytes, k, places);
+        if !inside {
             return false;
         }
-        at = e;
         k += 1;
     }
     true
@@ -472,22 +506,22 @@ pub fn chain_fits(
 ) -> bool
     ensures { λ r. ⌜ r ≡ chainFits (now (certificates .entry)) (now (lengths .entry)) (now («key_places» .entry)) (now (digests .entry)) (now (paths .entry)) ⌝ }
 {
-    let whole = numbers::sums_to(lengths, certificates.len());
-    if !whole {
-        return false;
-    }
     let n = numbers::count(lengths);
     if 8 < n {
         return false;
     }
-    let fit = all_fit(certificates, lengths, key_places, digests, paths);
+    let fit = numbers::fits(lengths, certificates.len(), 16384);
     if !fit {
         return false;
     }
     if 65536 < certificates.len() {
         return false;
     }
-    one_for_each(n, key_places, digests, paths)
+    let listed = one_for_each(n, key_places, digests, paths);
+    if !listed {
+        return false;
+    }
+    places_fit(n, lengths, key_places)
 }
 
 // Whether the lists for the leaf's names keep the limits.
@@ -499,16 +533,12 @@ pub fn names_fit(
 ) -> bool
     ensures { λ r. ⌜ r ≡ namesFit (now («dns_ids» .entry)) (now (lengths .entry)) «common_name_given» (now («common_name» .entry)) ⌝ }
 {
-    let whole = numbers::sums_to(lengths, dns_ids.len());
-    if !whole {
-        return false;
-    }
     let n = numbers::count(lengths);
     if 64 < n {
         return false;
     }
-    let small = numbers::all_at_most(lengths, 255);
-    if !small {
+    let fit = numbers::fits(lengths, dns_ids.len(), 255);
+    if !fit {
         return false;
     }
     if !common_name_given {

@@ -1,15 +1,15 @@
 -- Laws of `numbers` by place, and the turns of the loops over a list's numbers. Assumes nothing.
 use Prim.Native.Nat.{ℕ, zero, suc, _+_, _*_, _-_, _/_, _<_, _≤_}
 use mathlib.Core.Path.{_≡_, refl, sym, _∙_}
-use mathlib.Core.Bool.{Bool, true, false, and-false}
+use mathlib.Core.Bool.{Bool, true, false, cond, _&&_, and-false, and-true, and-assoc}
 use mathlib.Core.List.{List, [], _∷_}
 use native.Mathlib.Nat.{add-zero}
 use native.Mathlib.Omega.{arith}
-use lib.Dec.{eqb}
+use lib.Dec.{eqb, leb, ltb}
 use lib.ListN.{length, getD, drop, length-drop, drop-of-length-le, List·getD-eq-default}
 use lib.Seq.{getD-drop}
 use borrow.Author.Needs.{needs}
-use borrow.Author.Tests.{not-true, not-false, le-leb, lt-leb, eq-eqb, ne-eqb}
+use borrow.Author.Tests.{not-true, not-false, le-leb, lt-leb, lt-ltb, le-ltb, leb-true, leb-false, ltb-true, ltb-false, eq-eqb, ne-eqb}
 use Rattle.lists.specs.Bytes.{all}
 use Rattle.lists.proofs.Laws.{drop-next}
 use Rattle.numbers.specs.Numbers.{word, numbers, isWhole, sum, atMost}
@@ -123,3 +123,55 @@ module _ (list : List ℕ) (total : ℕ) (w : Bool) (whole : w ≡ isWhole list)
         cc
 
 pub ruleset sums-laws = (sums-left-over, sums-next, sums-over, sums-end, not-true, not-false, needs)
+
+-- `larger`
+pub larger-second : (x y : ℕ) → x < y → y ≡ cond (ltb x y) y x
+larger-second x y h = rw (lt-ltb x y h)
+
+pub larger-first : (x y : ℕ) → y ≤ x → x ≡ cond (ltb x y) y x
+larger-first x y h = rw (le-ltb x y h)
+
+pub ruleset larger-laws = (larger-second, larger-first, needs)
+
+-- the larger of two numbers is at most a bound where both are
+larger-most : (x y b : ℕ) → leb (cond (ltb x y) y x) b ≡ (leb x b && leb y b)
+larger-most x y b = go (ltb x y) refl (leb x b) refl (leb y b) refl
+  where
+    go : (t : Bool) → ltb x y ≡ t → (u : Bool) → leb x b ≡ u → (v : Bool) → leb y b ≡ v → leb (cond t y x) b ≡ (u && v)
+    go true p true q v r = r
+    go true p false q true r = absurd (omega (arith, ltb-true x y p, leb-false x b q, leb-true y b r))
+    go true p false q false r = r
+    go false p true q true r = q
+    go false p true q false r = absurd (omega (arith, ltb-false x y p, leb-true x b q, leb-false y b r))
+    go false p false q v r = q
+
+-- `fits`: w, n and v are what its calls gave, most is the largest number before place k
+module _ (list : List ℕ) (total bound : ℕ) (w : Bool) (whole : w ≡ isWhole list) where
+  pub fits-left-over : w ≡ false → false ≡ (sumsTo list total && all (atMost bound) (numbers list))
+  fits-left-over f = rw (← sums-left-over list total w whole f)
+
+  module _ (rest k n : ℕ) (sums : rest + sum (numbers list) ≡ total + sum (drop k (numbers list))) (counted : n ≡ length (numbers list)) where
+    pub fits-over : (v : ℕ) → k < n → v ≡ getD (numbers list) k 0 → rest < v → false ≡ (sumsTo list total && all (atMost bound) (numbers list))
+    fits-over v h e lt = rw (← sums-over list total w whole rest k n sums counted v h e lt)
+
+    module _ (h : n ≤ k) (most : ℕ) (small : all (atMost bound) (numbers list) ≡ (leb most bound && all (atMost bound) (drop k (numbers list)))) where
+      by-most : all (atMost bound) (numbers list) ≡ leb most bound
+      unfolding all
+      by-most = let g : length (numbers list) ≤ k = omega arith in small ∙ rw (drop-of-length-le (numbers list) g) (and-true (leb most bound))
+
+      pub fits-large : bound < most → false ≡ (sumsTo list total && all (atMost bound) (numbers list))
+      fits-large gt = rw (by-most, lt-leb most bound gt) (sym (and-false (sumsTo list total)))
+
+      pub fits-end : most ≤ bound → w ≡ true → eqb rest 0 ≡ (sumsTo list total && all (atMost bound) (numbers list))
+      fits-end le t = rw (← sums-end list total w whole rest k n sums counted h t, by-most, le-leb most bound le) (sym (and-true (eqb rest 0)))
+
+module _ (bound : ℕ) (ns : List ℕ) where
+  pub fits-start : all (atMost bound) ns ≡ (leb 0 bound && all (atMost bound) (drop 0 ns))
+  fits-start = rw (le-leb 0 bound (omega arith))
+
+  module _ (most k n : ℕ) (small : all (atMost bound) ns ≡ (leb most bound && all (atMost bound) (drop k ns))) (counted : n ≡ length ns) where
+    pub fits-next : (v : ℕ) → k < n → v ≡ getD ns k 0 → (m : ℕ) → m ≡ cond (ltb most v) v most → all (atMost bound) ns ≡ (leb m bound && all (atMost bound) (drop (k + 1) ns))
+    unfolding all atMost
+    fits-next v h e m me = let g : k < length ns = omega arith in small ∙ rw (drop-next ns k g, ← e, me, larger-most most v bound) (sym (and-assoc (leb most bound) (leb v bound) (all (atMost bound) (drop (k + 1) ns))))
+
+pub ruleset fits-laws = (fits-left-over, fits-start, sums-next, fits-next, fits-over, fits-large, fits-end, not-true, not-false, needs)

@@ -1,7 +1,9 @@
 // Lists of four-byte numbers, the highest byte first, and the pieces that such a list of lengths cuts.
 ghost use mathlib.Core.Path.{_≡_};
+ghost use mathlib.Core.Bool.{cond, _&&_};
 ghost use mathlib.Core.List.{[]};
 ghost use Prim.Native.Nat.{_*_, _+_, _<_, _≤_};
+ghost use lib.Dec.{ltb};
 ghost use lib.ListN.{length, getD, take, drop};
 ghost use Rattle.lists.specs.Bytes.{all};
 ghost use Rattle.numbers.specs.Numbers.{numbers, isWhole, atMost};
@@ -79,6 +81,43 @@ pub fn sums_to(list: &[u8], total: usize) -> bool
         k += 1;
     }
     left == 0
+}
+
+// The larger of two numbers.
+fn larger(x: u64, y: u64) -> u64
+    ensures { λ r. ⌜ r ≡ cond (ltb x y) y x ⌝ }
+{
+    if x < y {
+        return y;
+    }
+    x
+}
+
+// Whether it does, and every number of the list is at most the bound: both in one pass. The largest is held against the bound at the end.
+pub fn fits(list: &[u8], total: usize, bound: u64) -> bool
+    ensures { λ r. ⌜ r ≡ (sumsTo (now (list .entry)) total && all (atMost bound) (numbers (now (list .entry)))) ⌝ }
+{
+    let whole = is_whole(list);
+    if !whole {
+        return false;
+    }
+    let n = count(list);
+    let mut rest = total as u64;
+    let mut most = 0;
+    let mut k = 0;
+    while k < n {
+        let v = number(list, k);
+        if rest < v {
+            return false;
+        }
+        rest -= v;
+        most = larger(most, v);
+        k += 1;
+    }
+    if bound < most {
+        return false;
+    }
+    rest == 0
 }
 
 // Where the piece of n bytes that starts at `at` ends, of `total` bytes: no further than these go.

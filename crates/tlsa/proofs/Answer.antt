@@ -1,7 +1,7 @@
 -- The ways out of the functions on an answer. L and R are the list of lengths and the records. Assumes nothing.
 use Prim.Native.Nat.{ℕ, _<_, _≤_}
 use mathlib.Core.Path.{_≡_, refl, sym, _∙_}
-use mathlib.Core.Bool.{Bool, true, false, cond}
+use mathlib.Core.Bool.{Bool, true, false, cond, _&&_, and-false}
 use mathlib.Core.List.{List, [], _∷_}
 use mathlib.Core.Option.{none, some}
 use native.Mathlib.Omega.{arith}
@@ -120,22 +120,22 @@ module _ (lookup : Lookup) (L R : List ℕ) where
 
 pub ruleset answer-laws = (answer-secure, verdict-secure, answer-insecure, verdict-insecure, answer-absent, verdict-absent, answer-failed, verdict-failed, needs)
 
--- `records_fit`: w, n, r are what its calls gave
-module _ (L R : List ℕ) (w : Bool) (we : w ≡ sumsTo L (length R)) where
-  pub fit-sum : w ≡ false → false ≡ answerFits Lookup.Secure L R
+-- `records_fit`: n and r are what its calls gave
+module _ (L R : List ℕ) (n : ℕ) (ne : n ≡ length (numbers L)) where
+  pub fit-count : 32 < n → false ≡ answerFits Lookup.Secure L R
+  unfolding answerFits setFits
+  fit-count h = rw (cut-count R (numbers L), ← ne, lt-leb n 32 h) (sym (and-false (sumsTo L (length R))))
+
+  by-sizes : n ≤ 32 → (w : Bool) → w ≡ sumsTo L (length R) → (w && all (atMost 4096) (numbers L)) ≡ (w && setFits (recordsOf L R))
+  unfolding setFits
+  by-sizes h true e = rw (sizes 4096 R L true e refl, cut-count R (numbers L), ← ne, le-leb n 32 h)
+  by-sizes h false e = refl
+
+  pub fit-sizes : n ≤ 32 → (r : Bool) → r ≡ (sumsTo L (length R) && all (atMost 4096) (numbers L)) → r ≡ answerFits Lookup.Secure L R
   unfolding answerFits
-  fit-sum t = cc
+  fit-sizes h r re = re ∙ by-sizes h (sumsTo L (length R)) refl
 
-  module _ (wt : w ≡ true) (n : ℕ) (ne : n ≡ length (numbers L)) where
-    pub fit-count : 32 < n → false ≡ answerFits Lookup.Secure L R
-    unfolding answerFits setFits
-    fit-count h = cc (cut-count R (numbers L), lt-leb n 32 h)
-
-    pub fit-sizes : n ≤ 32 → (r : Bool) → r ≡ all (atMost 4096) (numbers L) → r ≡ answerFits Lookup.Secure L R
-    unfolding answerFits setFits
-    fit-sizes h r re = cc (cut-count R (numbers L), le-leb n 32 h, sizes 4096 R L w we wt)
-
-pub ruleset fit-laws = (fit-sum, fit-count, fit-sizes, not-true, not-false, needs)
+pub ruleset fit-laws = (fit-count, fit-sizes, needs)
 
 -- `answer_fits`: r is what `records_fit` gave
 module _ (lookup : Lookup) (L R : List ℕ) where

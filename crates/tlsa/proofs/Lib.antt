@@ -1,5 +1,6 @@
 pub mod Record
 pub mod Answer
+pub mod Short
 pub mod Meaning
 pub mod Written
 mod Worked

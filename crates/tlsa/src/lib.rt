@@ -1,5 +1,6 @@
 // TLSA answers: their records, what a set of them needs, and the names at which they are asked for (RFC 6698, RFC 7672).
 ghost use mathlib.Core.Path.{_≡_};
+ghost use Prim.Native.Nat.{_-_};
 ghost use Rattle.lists.specs.Bytes.{any};
 ghost use Rattle.tlsa.specs.Record.{short, isUsage, isSelector, dataFits, usable};
 ghost use Rattle.tlsa.specs.Answer.{recordsOf, answerOf, answerFits, needsOf, readOf, lookupVerdict, verdictOf};
@@ -45,13 +46,6 @@ pub enum Tries {
     NoName,
     AddressFailed,
     AddressMissing,
-}
-
-// Whether the record has under 3 bytes.
-pub fn is_short(entry: &[u8]) -> bool
-    ensures { λ r. ⌜ r ≡ short (now (entry .entry)) ⌝ }
-{
-    entry.len() < 3
 }
 
 // Whether the usage is 2 or 3.
@@ -102,20 +96,32 @@ pub fn is_usable(entry: &[u8]) -> bool
     data_fits(entry[2], entry.len() - 3)
 }
 
-// Whether some record has under 3 bytes.
+// What is left of some bytes after n of them: nothing where they are fewer.
+fn left_after(bytes: u64, n: u64) -> u64
+    ensures { λ r. ⌜ r ≡ bytes - n ⌝ }
+{
+    if bytes < n {
+        return 0;
+    }
+    bytes - n
+}
+
+// Whether some record has under 3 bytes: by its length, or by what is left of the records where the lengths run past them.
 fn has_short(lengths: &[u8], records: &[u8]) -> bool
     ensures { λ r. ⌜ r ≡ any short (recordsOf (now (lengths .entry)) (now (records .entry))) ⌝ }
 {
     let n = numbers::count(lengths);
-    let mut at = 0;
+    let mut rest = records.len() as u64;
     let mut k = 0;
     while k < n {
-        let e = numbers::end_at(lengths, k, at, records.len());
-        let hit = is_short(&records[at..e]);
-        if hit {
+        let size = numbers::number(lengths, k);
+        if size < 3 {
             return true;
         }
-        at = e;
+        if rest < 3 {
+            return true;
+        }
+        rest = left_after(rest, size);
         k += 1;
     }
     false
@@ -187,15 +193,11 @@ pub fn read_answer(lookup: Lookup, lengths: &[u8], records: &[u8]) -> Read
 fn records_fit(lengths: &[u8], records: &[u8]) -> bool
     ensures { λ r. ⌜ r ≡ answerFits Lookup.Secure (now (lengths .entry)) (now (records .entry)) ⌝ }
 {
-    let whole = numbers::sums_to(lengths, records.len());
-    if !whole {
-        return false;
-    }
     let n = numbers::count(lengths);
     if 32 < n {
         return false;
     }
-    numbers::all_at_most(lengths, 4096)
+    numbers::fits(lengths, records.len(), 4096)
 }
 
 // Whether an answer keeps the limits. Only a secure one has any.

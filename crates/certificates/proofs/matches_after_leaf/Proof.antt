@@ -1,81 +1,53 @@
 -- `certificates::matches_after_leaf` meets its contract. Assumes nothing.
-use Prim.Native.Nat.{_≤_, _-_}
-use mathlib.Core.Path.{_≡_}
-use lib.ListN.{length, drop}
-use Rattle.lists.specs.Bytes.{any}
-use Rattle.numbers.specs.Numbers.{numbers}
-use Rattle.numbers.specs.Pieces.{cut, numbered}
-use Rattle.certificates.specs.Facts.{certificateAt, certificatesOf}
-use Rattle.certificates.specs.Checks.{matchesOnPath, afterLeaf}
-use Rattle.certificates.proofs.Passing.{after-laws}
+use Rattle.certificates.proofs.Passing.{after-laws, held-laws}
 use Rattle.certificates.proofs.matches_after_leaf.Statement.{statement}
 use Rattle.certificates.proofs.matches_after_leaf.Tie as tie
 
-abbrev Inv-loop : tie.InvT-loop
-Inv-loop entry certificates lengths places digests paths n at₀ k₀ at k = (k ≤ n) × (at ≤ length certificates) × (any (matchesOnPath entry) (afterLeaf (certificatesOf certificates lengths places digests paths)) ≡ any (matchesOnPath entry) (numbered (certificateAt places digests paths) k (cut (drop at certificates) (drop k (numbers lengths)))))
+shared-slice-read-matching-type : tie.Need-shared-slice-read-matching-type
+shared-slice-read-matching-type c = search after-laws
 
-abbrev μ-loop : tie.MeasureT-loop
-μ-loop entry certificates lengths places digests paths n at₀ k₀ at k = n - k
+whole-after-leaf-requires : tie.Need-whole-after-leaf-requires
+whole-after-leaf-requires c κs = (search after-laws, search after-laws)
 
-count-requires : tie.Need-count-requires Inv-loop μ-loop
-count-requires c κs = search after-laws
-
-returns : tie.Need-returns Inv-loop μ-loop
+returns : tie.Need-returns
 returns c = search after-laws
 
-end-at-requires : tie.Need-end-at-requires Inv-loop μ-loop
-end-at-requires c κs = search after-laws
+shared-slice-read-digest-start : tie.Need-shared-slice-read-digest-start
+shared-slice-read-digest-start c = search after-laws
 
-loop-holds : tie.Need-loop-holds Inv-loop μ-loop
-loop-holds c = search after-laws
+digest-start-requires : tie.Need-digest-start-requires
+digest-start-requires c κs = search after-laws
 
-end-at-requires-2 : tie.Need-end-at-requires-2 Inv-loop μ-loop
-end-at-requires-2 c κs = search after-laws
+count-requires : tie.Need-count-requires
+count-requires c κs = search after-laws
 
-sub-matches-on-path : tie.Need-sub-matches-on-path Inv-loop μ-loop
-sub-matches-on-path c = search after-laws
+sub-is-digest-after-leaf : tie.Need-sub-is-digest-after-leaf
+sub-is-digest-after-leaf c = search after-laws
 
-part-matches-on-path-start : tie.Need-part-matches-on-path-start Inv-loop μ-loop
-part-matches-on-path-start c = search after-laws
+part-is-digest-after-leaf-start : tie.Need-part-is-digest-after-leaf-start
+part-is-digest-after-leaf-start c = search after-laws
 
-part-matches-on-path-end : tie.Need-part-matches-on-path-end Inv-loop μ-loop
-part-matches-on-path-end c = search after-laws
+part-is-digest-after-leaf-end : tie.Need-part-is-digest-after-leaf-end
+part-is-digest-after-leaf-end c = search after-laws
 
-matches-on-path-requires : tie.Need-matches-on-path-requires Inv-loop μ-loop
-matches-on-path-requires c κs = search after-laws
+is-digest-after-leaf-requires : tie.Need-is-digest-after-leaf-requires
+is-digest-after-leaf-requires c κs = (search held-laws, search held-laws)
 
-returns-2 : tie.Need-returns-2 Inv-loop μ-loop
+returns-2 : tie.Need-returns-2
 returns-2 c = search after-laws
-
-add-k : tie.Need-add-k Inv-loop μ-loop
-add-k c = search after-laws
-
-loop-less : tie.Need-loop-less Inv-loop μ-loop
-loop-less c = search after-laws
-
-loop-again : tie.Need-loop-again Inv-loop μ-loop
-loop-again c = search after-laws
-
-returns-3 : tie.Need-returns-3 Inv-loop μ-loop
-returns-3 c = search after-laws
 
 pub matches-after-leaf-spec : {M : Type 1} → statement M
 matches-after-leaf-spec =
     tie.close
     (tie.spec
-    Inv-loop
-    μ-loop
-    count-requires
+    shared-slice-read-matching-type
+    whole-after-leaf-requires
     returns
-    end-at-requires
-    loop-holds
-    end-at-requires-2
-    sub-matches-on-path
-    part-matches-on-path-start
-    part-matches-on-path-end
-    matches-on-path-requires
-    returns-2
-    add-k
-    loop-less
-    loop-again
-    returns-3)
+    shared-slice-read-digest-start
+    digest-start-requires
+    count-requires
+    sub-is-digest-after-leaf
+    part-is-digest-after-leaf-start
+    part-is-digest-after-leaf-end
+    is-digest-after-leaf-requires
+    returns-2)

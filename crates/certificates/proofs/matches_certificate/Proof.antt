@@ -15,9 +15,6 @@ part-is-compared-end c = search matches-laws
 shared-slice-read-is-compared : tie.Need-shared-slice-read-is-compared
 shared-slice-read-is-compared c = search matches-laws
 
-shared-slice-read-is-compared-2 : tie.Need-shared-slice-read-is-compared-2
-shared-slice-read-is-compared-2 c = search matches-laws
-
 is-compared-requires : tie.Need-is-compared-requires
 is-compared-requires c κs = search matches-laws
 
@@ -32,6 +29,5 @@ matches-certificate-spec =
     part-is-compared-start
     part-is-compared-end
     shared-slice-read-is-compared
-    shared-slice-read-is-compared-2
     is-compared-requires
     returns)
