@@ -1,10 +1,10 @@
 -- The ways out of the functions that have no loop. Assumes nothing.
 use Prim.Native.Nat.{ℕ, _<_, _≤_}
 use mathlib.Core.Path.{_≡_, refl, sym, ap, _∙_}
-use mathlib.Core.Bool.{Bool, true, false, _&&_, and-false}
+use mathlib.Core.Bool.{Bool, true, false, _||_, and-false, or-false}
 use mathlib.Core.List.{List}
 use native.Mathlib.Omega.{arith}
-use lib.Dec.{eqb}
+use lib.Dec.{eqb, leb}
 use lib.ListN.{length, take}
 use lib.Seq.{length-take-le}
 use borrow.Author.Needs.{needs}
@@ -30,13 +30,19 @@ module _ (v : ℕ) where
   unfolding isHostVerdict isNextHost
   verdict-zero h = cc
 
-  pub verdict-final : (v ≡ 0 → ⊥) → v ≤ 5 → true ≡ isHostVerdict v
-  unfolding isHostVerdict
-  verdict-final z h = rw (ne-eqb v 9 (λ e. omega arith), le-leb 1 v (omega arith), le-leb v 5 h)
+  module _ (r : Bool) (gave : r ≡ isNextHost v) where
+    pub verdict-next : r ≡ true → true ≡ isHostVerdict v
+    unfolding isHostVerdict
+    verdict-next t = let n : isNextHost v ≡ true = sym gave ∙ t in rw n (go (eqb v 9) (within 1 5 v))
+      where
+        go : (a b : Bool) → true ≡ (a || b || true)
+        go true b = refl
+        go false true = refl
+        go false false = refl
 
-  pub verdict-next : (v ≡ 9 → ⊥) → 5 < v → (r : Bool) → r ≡ isNextHost v → r ≡ isHostVerdict v
-  unfolding isHostVerdict
-  verdict-next n h r e = rw (ne-eqb v 9 n, le-leb 1 v (omega arith), lt-leb v 5 h) e
+    pub verdict-final : r ≡ false → (v ≡ 9 → ⊥) → (v ≡ 0 → ⊥) → leb v 5 ≡ isHostVerdict v
+    unfolding isHostVerdict
+    verdict-final f n z = let x : isNextHost v ≡ false = sym gave ∙ f in rw (ne-eqb v 9 n, le-leb 1 v (omega arith), x) (sym (or-false (leb v 5)))
 
 pub ruleset verdict-laws = (verdict-nine, verdict-zero, verdict-final, verdict-next, needs)
 

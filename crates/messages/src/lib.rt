@@ -39,11 +39,11 @@ fn no_host(number: u64) -> MessageAnswer
     }
 }
 
-// A preference as a wide number.
-fn wide(p: u16) -> u64
-    ensures { λ r. ⌜ (r ≡ p) × (r < 65536) ⌝ }
+// A preference or a verdict as a wide number.
+fn wide(x: u16) -> u64
+    ensures { λ r. ⌜ (r ≡ x) × (r < 65536) ⌝ }
 {
-    p as u64
+    x as u64
 }
 
 // Whether the verdict says "next host".
@@ -63,16 +63,17 @@ fn is_next_host(v: u64) -> bool
 fn is_host_verdict(v: u64) -> bool
     ensures { λ r. ⌜ r ≡ isHostVerdict v ⌝ }
 {
+    let next = is_next_host(v);
+    if next {
+        return true;
+    }
     if v == 9 {
         return true;
     }
     if v == 0 {
         return false;
     }
-    if v <= 5 {
-        return true;
-    }
-    is_next_host(v)
+    v <= 5
 }
 
 // The host that decides among those of `later` and one that was given before them.
@@ -130,7 +131,7 @@ fn decided_by(decider: Decider) -> MessageAnswer
 }
 
 // The answer of the first `count` hosts. They are looked at from the last to the first, so that of equal preferences the first given stays.
-fn walk_hosts(preferences: [u16; 32], verdicts: [u8; 32], count: usize) -> MessageAnswer
+fn walk_hosts(preferences: [u16; 32], verdicts: [u16; 32], count: usize) -> MessageAnswer
     requires { ⌜ (0 < count) × (count ≤ 32) ⌝ }
     ensures { λ r. ⌜ r ≡ messageAnswer (take count preferences) (take count verdicts) ⌝ }
 {
@@ -138,7 +139,7 @@ fn walk_hosts(preferences: [u16; 32], verdicts: [u8; 32], count: usize) -> Messa
     let mut k = count;
     while 0 < k {
         let j = k - 1;
-        let v = numbers::wide(verdicts[j]);
+        let v = wide(verdicts[j]);
         let right = is_host_verdict(v);
         if !right {
             return no_host(63);
@@ -151,7 +152,7 @@ fn walk_hosts(preferences: [u16; 32], verdicts: [u8; 32], count: usize) -> Messa
 }
 
 // The answer of a message's hosts: the first `count` preferences, with a verdict each.
-pub fn first_host(preferences: [u16; 32], verdicts: [u8; 32], count: usize) -> MessageAnswer
+pub fn first_host(preferences: [u16; 32], verdicts: [u16; 32], count: usize) -> MessageAnswer
     ensures { λ r. ⌜ r ≡ hostsAnswer count preferences verdicts ⌝ }
 {
     if 32 < count {
@@ -169,7 +170,7 @@ fn read_hosts(preferences: &[u8], verdicts: &[u8], count: usize) -> MessageAnswe
     ensures { λ r. ⌜ r ≡ messageAnswer (numbers (now (preferences .entry))) (numbers (now (verdicts .entry))) ⌝ }
 {
     let mut p = [0u16; 32];
-    let mut v = [0u8; 32];
+    let mut v = [0u16; 32];
     let mut k = 0;
     while k < count {
         let a = numbers::number(preferences, k);
@@ -177,11 +178,11 @@ fn read_hosts(preferences: &[u8], verdicts: &[u8], count: usize) -> MessageAnswe
             return no_host(63);
         }
         let b = numbers::number(verdicts, k);
-        if 255 < b {
+        if 65535 < b {
             return no_host(63);
         }
         p[k] = a as u16;
-        v[k] = b as u8;
+        v[k] = b as u16;
         k += 1;
     }
     first_host(p, v, count)

@@ -108,7 +108,7 @@ seen-more : (s : List ℕ) (cs all rest : List (List ℕ)) (a e : ℕ) → a ≤
     → (r : Found) → SeenIs s cs all r → SeenIs s cs rest (withOne r a e)
 unfolding SeenIs
 seen-more s cs all rest a e o i kept q Found.Broken is = is
-seen-more s cs all rest a e o i kept q Found.Nothing is = record { order = o; inside = i; first = is ∙ q; kept = kept; }
+seen-more s cs all rest a e o i kept q Found.Nothing is = record { order = o; inside = i; first = is ∙ q; kept = kept }
 seen-more s cs all rest a e o i kept q (Found.One b f) is = omega (arith, ap length (is .first), ap length q)
 seen-more s cs all rest a e o i kept q Found.Several is = is
 

@@ -262,18 +262,18 @@ unfolding isCandidate
 first-is n s l = sym (begins-first tag s n l)
 
 module _ (s : List ℕ) where
-  pub first-none : length s ≡ 0 → false ≡ isCandidate (joined s)
+  pub first-none : length s < 1 → false ≡ isCandidate (joined s)
   first-none h = go s h
     where
-      go : (s : List ℕ) → length s ≡ 0 → false ≡ isCandidate (joined s)
+      go : (s : List ℕ) → length s < 1 → false ≡ isCandidate (joined s)
       go [] h = rw joined-none (tagged-short [] (omega arith))
       go (x ∷ s) h = absurd (omega arith)
 
-  pub first-only : (length s ≡ 0 → ⊥) → 8 ≤ getD s 0 0 → (r : Bool) → r ≡ isCandidate (take (length s - 1) (drop 1 s)) → r ≡ isCandidate (joined s)
+  pub first-only : 1 ≤ length s → 8 ≤ getD s 0 0 → (r : Bool) → r ≡ isCandidate (take (length s - 1) (drop 1 s)) → r ≡ isCandidate (joined s)
   first-only z l r e = e ∙ (ap isCandidate (take-rest s 1) ∙ go s z l)
     where
-      go : (s : List ℕ) → (length s ≡ 0 → ⊥) → 8 ≤ getD s 0 0 → isCandidate (drop 1 s) ≡ isCandidate (joined s)
-      go [] z l = absurd (z refl)
+      go : (s : List ℕ) → 1 ≤ length s → 8 ≤ getD s 0 0 → isCandidate (drop 1 s) ≡ isCandidate (joined s)
+      go [] z l = absurd (omega arith)
       go (n ∷ s) z l = rw (joined-cons n s) (first-is n s l)
 
 pub ruleset first-laws = (first-none, first-only, needs)

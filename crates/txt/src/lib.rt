@@ -8,6 +8,7 @@ ghost use Rattle.lists.specs.Equal.{sameBytes};
 ghost use Rattle.lists.specs.Span.{spanOf, begins};
 ghost use Rattle.lists.specs.Text.{text};
 ghost use Rattle.numbers.specs.Pieces.{endOf};
+ghost use Rattle.fields.specs.Name.{letterOrDigit};
 ghost use Rattle.txt.specs.Paper.{valueByte, isId};
 ghost use Rattle.txt.specs.Rdata.{isRdata, joined};
 ghost use Rattle.txt.specs.Grammar.{version, fieldsOf};
@@ -116,7 +117,7 @@ fn is_candidate_in_parts(s: &[u8]) -> bool
 fn is_candidate(s: &[u8]) -> bool
     ensures { λ r. ⌜ r ≡ isCandidate (joined (now (s .entry))) ⌝ }
 {
-    if s.len() == 0 {
+    if s.len() < 1 {
         return false;
     }
     if s[0] < 8 {
@@ -175,8 +176,8 @@ fn find_candidate(rdatas: &[u8], lengths: &[u8]) -> Found
     let mut found = Found::Nothing;
     let mut at = 0;
     let mut k = 0;
+    let mut v = numbers::number(lengths, 0) as usize;
     while k < n {
-        let v = numbers::number(lengths, k) as usize;
         if rdatas.len() - at < v {
             return Found::Broken;
         }
@@ -189,11 +190,13 @@ fn find_candidate(rdatas: &[u8], lengths: &[u8]) -> Found
             Kind::Other => {
                 at = e;
                 k += 1;
+                v = numbers::number(lengths, k) as usize;
             }
             Kind::Candidate => {
                 found = one_more(found, at, e);
                 at = e;
                 k += 1;
+                v = numbers::number(lengths, k) as usize;
             }
         }
     }
@@ -262,12 +265,27 @@ fn is_value_byte(b: u8) -> bool
     true
 }
 
-// Where the value ends that follows the `=` at e.
-fn value_end(t: &[u8], e: usize) -> usize
+// Where the letters and digits end that follow the `=` at e.
+fn letters_end(t: &[u8], e: usize) -> usize
     requires { ⌜ e < length (now t) ⌝ }
-    ensures { λ r. ⌜ (r ≡ e + 1 + spanOf valueByte (drop (e + 1) (now (t .entry)))) × (e < r) ⌝ }
+    ensures { λ r. ⌜ (r ≡ e + 1 + spanOf letterOrDigit (drop (e + 1) (now (t .entry)))) × (e < r) ⌝ }
 {
     let mut i = e + 1;
+    while i < t.len() {
+        let good = fields::is_letter_or_digit(t[i]);
+        if !good {
+            return i;
+        }
+        i += 1;
+    }
+    i
+}
+
+// Where the value ends, whose bytes before w were looked at.
+fn value_end(t: &[u8], w: usize) -> usize
+    ensures { λ r. ⌜ (r ≡ w + spanOf valueByte (drop w (now (t .entry)))) × (w ≤ r) ⌝ }
+{
+    let mut i = w;
     while i < t.len() {
         let good = is_value_byte(t[i]);
         if !good {
@@ -278,10 +296,11 @@ fn value_end(t: &[u8], e: usize) -> usize
     i
 }
 
-// What follows the version or a field: the end; a field from a place, with its `=` at a place and its value up to a place; or neither.
+// What follows the version or a field: the end; a field from a place, with its `=` at a place, letters and digits from there to a place, and its value up to a place;
+// or neither.
 enum Step {
     End,
-    Field(usize, usize, usize),
+    Field(usize, usize, usize, usize),
     Broken,
 }
 
@@ -307,11 +326,12 @@ fn step_at(t: &[u8], at: usize) -> Step
     let Field::Named(e) = name else {
         return Step::Broken;
     };
-    let v = value_end(t, e);
+    let w = letters_end(t, e);
+    let v = value_end(t, w);
     if v - e <= 1 {
         return Step::Broken;
     }
-    Step::Field(a, e, v)
+    Step::Field(a, e, w, v)
 }
 
 // Whether the field's name is `id`.
@@ -350,7 +370,7 @@ fn has_form(t: &[u8], from: usize) -> bool
     loop {
         let step = step_at(t, at);
         match step {
-            Step::Field(_, _, v) => {
+            Step::Field(_, _, _, v) => {
                 at = v;
             }
             Step::End => {
@@ -363,14 +383,16 @@ fn has_form(t: &[u8], from: usize) -> bool
     }
 }
 
-// The answer where the value of the first field named `id` follows the `=` at e and goes up to v.
-fn with_id(t: &[u8], e: usize, v: usize) -> TxtAnswer
-    requires { ⌜ (e + 1 ≤ v) × (v ≤ length (now t)) ⌝ }
+// The answer where the value of the first field named `id` follows the `=` at e and goes up to v, its letters and digits up to w.
+fn with_id(t: &[u8], e: usize, w: usize, v: usize) -> TxtAnswer
+    requires { ⌜ (w ≡ e + 1 + spanOf letterOrDigit (drop (e + 1) (now t))) × (e + 1 < v) × (w ≤ v) × (v ≤ length (now t)) ⌝ }
     ensures { λ r. ⌜ r ≡ idAnswer (now (t .entry)) (e + 1) v ⌝ }
 {
+    if w < v {
+        return refused(42);
+    }
     let a = e + 1;
-    let good = is_id(&t[a..v]);
-    if !good {
+    if 32 < v - a {
         return refused(42);
     }
     let rest = has_form(t, v);
@@ -393,10 +415,10 @@ fn grade(t: &[u8]) -> TxtAnswer
     loop {
         let step = step_at(t, at);
         match step {
-            Step::Field(a, e, v) => {
+            Step::Field(a, e, w, v) => {
                 let named = is_id_name(&t[a..e]);
                 if named {
-                    return with_id(t, e, v);
+                    return with_id(t, e, w, v);
                 }
                 at = v;
             }

@@ -3,6 +3,9 @@ use Rattle.messages.proofs.Ways.{verdict-laws}
 use Rattle.messages.proofs.is_host_verdict.Statement.{statement}
 use Rattle.messages.proofs.is_host_verdict.Tie as tie
 
+is-next-host-requires : tie.Need-is-next-host-requires
+is-next-host-requires c κs = search verdict-laws
+
 returns : tie.Need-returns
 returns c = search verdict-laws
 
@@ -12,12 +15,9 @@ returns-2 c = search verdict-laws
 returns-3 : tie.Need-returns-3
 returns-3 c = search verdict-laws
 
-is-next-host-requires : tie.Need-is-next-host-requires
-is-next-host-requires c κs = search verdict-laws
-
 returns-4 : tie.Need-returns-4
 returns-4 c = search verdict-laws
 
 pub is-host-verdict-spec : {M : Type 1} → statement M
 is-host-verdict-spec =
-    tie.close (tie.spec returns returns-2 returns-3 is-next-host-requires returns-4)
+    tie.close (tie.spec is-next-host-requires returns returns-2 returns-3 returns-4)

@@ -46,6 +46,9 @@ array-write-p c = search read-laws
 cast-v : tie.Need-cast-v Inv-loop μ-loop
 cast-v c = search read-laws
 
+mul-v : tie.Need-mul-v Inv-loop μ-loop
+mul-v c = search read-laws
+
 array-write-v : tie.Need-array-write-v Inv-loop μ-loop
 array-write-v c = search read-laws
 
@@ -81,6 +84,7 @@ read-hosts-spec =
     mul-p
     array-write-p
     cast-v
+    mul-v
     array-write-v
     add-k
     loop-less

@@ -1,26 +1,27 @@
 -- `txt::find_candidate` meets its contract. Assumes nothing.
 use Prim.Native.Nat.{_≤_, _-_}
 use mathlib.Core.Path.{_≡_}
-use lib.ListN.{length}
+use lib.ListN.{length, getD}
+use Rattle.numbers.specs.Numbers.{numbers}
 use Rattle.txt.specs.Steps.{SeenIs, wireFrom, candidatesFrom}
 use Rattle.txt.proofs.Candidates.{found-laws}
 use Rattle.txt.proofs.find_candidate.Statement.{statement}
 use Rattle.txt.proofs.find_candidate.Tie as tie
 
 abbrev Inv-loop : tie.InvT-loop
-Inv-loop rdatas lengths n found₀ at₀ k₀ found at k = (at ≤ length rdatas) × (wireFrom rdatas lengths 0 0 ≡ wireFrom rdatas lengths at k) × (SeenIs rdatas (candidatesFrom rdatas lengths 0 0) (candidatesFrom rdatas lengths at k) found)
+Inv-loop rdatas lengths n found₀ at₀ k₀ v₀ found at k v = (at ≤ length rdatas) × (v ≡ getD (numbers lengths) k 0) × (wireFrom rdatas lengths 0 0 ≡ wireFrom rdatas lengths at k) × (SeenIs rdatas (candidatesFrom rdatas lengths 0 0) (candidatesFrom rdatas lengths at k) found)
 
 abbrev μ-loop : tie.MeasureT-loop
-μ-loop rdatas lengths n found₀ at₀ k₀ found at k = n - k
+μ-loop rdatas lengths n found₀ at₀ k₀ v₀ found at k v = n - k
 
 count-requires : tie.Need-count-requires Inv-loop μ-loop
 count-requires c κs = search found-laws
 
-loop-holds : tie.Need-loop-holds Inv-loop μ-loop
-loop-holds c = search found-laws
-
 number-requires : tie.Need-number-requires Inv-loop μ-loop
 number-requires c κs = search found-laws
+
+loop-holds : tie.Need-loop-holds Inv-loop μ-loop
+loop-holds c = search found-laws
 
 sub-if1 : tie.Need-sub-if1 Inv-loop μ-loop
 sub-if1 c = search found-laws
@@ -55,6 +56,9 @@ enum-told-2 c = search found-laws
 add-k : tie.Need-add-k Inv-loop μ-loop
 add-k c = search found-laws
 
+number-requires-2 : tie.Need-number-requires-2 Inv-loop μ-loop
+number-requires-2 c κs = search found-laws
+
 loop-less : tie.Need-loop-less Inv-loop μ-loop
 loop-less c = search found-laws
 
@@ -69,6 +73,9 @@ one-more-requires c κs = search found-laws
 
 add-k-2 : tie.Need-add-k-2 Inv-loop μ-loop
 add-k-2 c = search found-laws
+
+number-requires-3 : tie.Need-number-requires-3 Inv-loop μ-loop
+number-requires-3 c κs = search found-laws
 
 loop-less-2 : tie.Need-loop-less-2 Inv-loop μ-loop
 loop-less-2 c = search found-laws
@@ -89,8 +96,8 @@ find-candidate-spec =
     Inv-loop
     μ-loop
     count-requires
-    loop-holds
     number-requires
+    loop-holds
     sub-if1
     returns
     add-e
@@ -102,11 +109,13 @@ find-candidate-spec =
     returns-2
     enum-told-2
     add-k
+    number-requires-2
     loop-less
     loop-again
     enum-told-3
     one-more-requires
     add-k-2
+    number-requires-3
     loop-less-2
     loop-again-2
     returns-3

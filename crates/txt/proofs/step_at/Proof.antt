@@ -39,6 +39,9 @@ enum-told c = search step-laws
 returns-5 : tie.Need-returns-5
 returns-5 c = search step-laws
 
+letters-end-requires : tie.Need-letters-end-requires
+letters-end-requires c κs = search step-laws
+
 value-end-requires : tie.Need-value-end-requires
 value-end-requires c κs = search step-laws
 
@@ -67,6 +70,7 @@ step-at-spec =
     enum-known-name
     enum-told
     returns-5
+    letters-end-requires
     value-end-requires
     sub-if5
     returns-6

@@ -9,13 +9,10 @@ use Rattle.txt.proofs.value_end.Statement.{statement}
 use Rattle.txt.proofs.value_end.Tie as tie
 
 abbrev Inv-loop : tie.InvT-loop
-Inv-loop t e i₀ i = (e + 1 ≤ i) × (e + 1 + spanOf valueByte (drop (e + 1) t) ≡ i + spanOf valueByte (drop i t))
+Inv-loop t w i₀ i = (w ≤ i) × (w + spanOf valueByte (drop w t) ≡ i + spanOf valueByte (drop i t))
 
 abbrev μ-loop : tie.MeasureT-loop
-μ-loop t e i₀ i = length t - i
-
-add-i : tie.Need-add-i Inv-loop μ-loop
-add-i c = search past-laws
+μ-loop t w i₀ i = length t - i
 
 loop-holds : tie.Need-loop-holds Inv-loop μ-loop
 loop-holds c = search past-laws
@@ -29,8 +26,8 @@ is-value-byte-requires c κs = search past-laws
 returns : tie.Need-returns Inv-loop μ-loop
 returns c = search past-laws
 
-add-i-2 : tie.Need-add-i-2 Inv-loop μ-loop
-add-i-2 c = search past-laws
+add-i : tie.Need-add-i Inv-loop μ-loop
+add-i c = search past-laws
 
 loop-less : tie.Need-loop-less Inv-loop μ-loop
 loop-less c = search past-laws
@@ -47,12 +44,11 @@ value-end-spec =
     (tie.spec
     Inv-loop
     μ-loop
-    add-i
     loop-holds
     shared-slice-read-is-value-byte
     is-value-byte-requires
     returns
-    add-i-2
+    add-i
     loop-less
     loop-again
     returns-2)
