@@ -50,11 +50,11 @@ module _ (ps vs : List ℕ) (k count : ℕ) (counted : count ≡ length ps) (cou
     pub read-preference : n ≡ getD ps k 0 → 65535 < n → r ≡ messageAnswer ps vs
     read-preference e o = refused ∙ sym (no-preference ps vs (all-fails isPreference ps k (omega arith) (high e o)))
 
-    other : n ≡ getD vs k 0 → 65535 < n → isHostVerdict (getD vs k 0) ≡ false
+    other : n ≡ getD vs k 0 → 255 < n → isHostVerdict (getD vs k 0) ≡ false
     unfolding isHostVerdict isNextHost
     other e o = rw (ne-eqb (getD vs k 0) 9 (λ q. omega arith), lt-leb (getD vs k 0) 5 (omega arith), lt-leb (getD vs k 0) 27 (omega arith), and-false (leb 1 (getD vs k 0))) (and-false (leb 20 (getD vs k 0)))
 
-    pub read-verdict : n ≡ getD vs k 0 → 65535 < n → r ≡ messageAnswer ps vs
+    pub read-verdict : n ≡ getD vs k 0 → 255 < n → r ≡ messageAnswer ps vs
     read-verdict e o = refused ∙ sym (no-verdict ps vs (all-fails isHostVerdict vs k (omega arith) (other e o)))
 
   pub read-end : count ≤ k → k ≤ count → count ≤ 32 → (a b : List ℕ) → take k a ≡ take k ps → take k b ≡ take k vs → r ≡ hostsAnswer count a b → r ≡ messageAnswer ps vs

@@ -39,7 +39,7 @@ fn no_host(number: u64) -> MessageAnswer
     }
 }
 
-// A preference or a verdict as a wide number.
+// A preference as a wide number.
 fn wide(x: u16) -> u64
     ensures { λ r. ⌜ (r ≡ x) × (r < 65536) ⌝ }
 {
@@ -131,7 +131,7 @@ fn decided_by(decider: Decider) -> MessageAnswer
 }
 
 // The answer of the first `count` hosts. They are looked at from the last to the first, so that of equal preferences the first given stays.
-fn walk_hosts(preferences: [u16; 32], verdicts: [u16; 32], count: usize) -> MessageAnswer
+fn walk_hosts(preferences: [u16; 32], verdicts: [u8; 32], count: usize) -> MessageAnswer
     requires { ⌜ (0 < count) × (count ≤ 32) ⌝ }
     ensures { λ r. ⌜ r ≡ messageAnswer (take count preferences) (take count verdicts) ⌝ }
 {
@@ -139,7 +139,7 @@ fn walk_hosts(preferences: [u16; 32], verdicts: [u16; 32], count: usize) -> Mess
     let mut k = count;
     while 0 < k {
         let j = k - 1;
-        let v = wide(verdicts[j]);
+        let v = numbers::wide(verdicts[j]);
         let right = is_host_verdict(v);
         if !right {
             return no_host(63);
@@ -152,7 +152,7 @@ fn walk_hosts(preferences: [u16; 32], verdicts: [u16; 32], count: usize) -> Mess
 }
 
 // The answer of a message's hosts: the first `count` preferences, with a verdict each.
-pub fn first_host(preferences: [u16; 32], verdicts: [u16; 32], count: usize) -> MessageAnswer
+pub fn first_host(preferences: [u16; 32], verdicts: [u8; 32], count: usize) -> MessageAnswer
     ensures { λ r. ⌜ r ≡ hostsAnswer count preferences verdicts ⌝ }
 {
     if 32 < count {
@@ -170,20 +170,22 @@ fn read_hosts(preferences: &[u8], verdicts: &[u8], count: usize) -> MessageAnswe
     ensures { λ r. ⌜ r ≡ messageAnswer (numbers (now (preferences .entry))) (numbers (now (verdicts .entry))) ⌝ }
 {
     let mut p = [0u16; 32];
-    let mut v = [0u16; 32];
+    let mut v = [0u8; 32];
+    let mut a = numbers::number(preferences, 0);
+    let mut b = numbers::number(verdicts, 0);
     let mut k = 0;
     while k < count {
-        let a = numbers::number(preferences, k);
         if 65535 < a {
             return no_host(63);
         }
-        let b = numbers::number(verdicts, k);
-        if 65535 < b {
+        if 255 < b {
             return no_host(63);
         }
         p[k] = a as u16;
-        v[k] = b as u16;
+        v[k] = b as u8;
         k += 1;
+        a = numbers::number(preferences, k);
+        b = numbers::number(verdicts, k);
     }
     first_host(p, v, count)
 }

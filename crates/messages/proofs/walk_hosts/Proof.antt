@@ -9,6 +9,7 @@ use Rattle.messages.specs.Search.{deciderOf}
 use Rattle.messages.proofs.Finds.{walk-laws}
 use Rattle.messages.proofs.walk_hosts.Statement.{statement}
 use Rattle.messages.proofs.walk_hosts.Tie as tie
+use Rattle.numbers.proofs.wide.Reads as wide-reads′
 
 abbrev Inv-loop : tie.InvT-loop
 Inv-loop count preferences verdicts decider₀ k₀ decider k = (k ≤ count) × (decider ≡ deciderOf (hostsFrom k (drop k (take count preferences)) (drop k (take count verdicts)))) × (all isPreference (drop k (take count preferences)) ≡ true) × (all isHostVerdict (drop k (take count verdicts)) ≡ true)
@@ -21,9 +22,6 @@ loop-holds c = search walk-laws
 
 sub-j : tie.Need-sub-j Inv-loop μ-loop
 sub-j c = search walk-laws
-
-mul-wide : tie.Need-mul-wide Inv-loop μ-loop
-mul-wide c = search walk-laws
 
 array-read-wide : tie.Need-array-read-wide Inv-loop μ-loop
 array-read-wide c = search walk-laws
@@ -40,8 +38,8 @@ no-host-requires c κs = search walk-laws
 returns : tie.Need-returns Inv-loop μ-loop
 returns c = search walk-laws
 
-mul-wide-2 : tie.Need-mul-wide-2 Inv-loop μ-loop
-mul-wide-2 c = search walk-laws
+mul-wide : tie.Need-mul-wide Inv-loop μ-loop
+mul-wide c = search walk-laws
 
 array-read-wide-2 : tie.Need-array-read-wide-2 Inv-loop μ-loop
 array-read-wide-2 c = search walk-laws
@@ -72,13 +70,12 @@ walk-hosts-spec =
     μ-loop
     loop-holds
     sub-j
-    mul-wide
     array-read-wide
     wide-requires
     is-host-verdict-requires
     no-host-requires
     returns
-    mul-wide-2
+    mul-wide
     array-read-wide-2
     wide-requires-2
     with-host-requires
