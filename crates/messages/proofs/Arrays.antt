@@ -57,16 +57,25 @@ module _ (ps vs : List ℕ) (k count : ℕ) (counted : count ≡ length ps) (cou
     pub read-verdict : n ≡ getD vs k 0 → 255 < n → r ≡ messageAnswer ps vs
     read-verdict e o = refused ∙ sym (no-verdict ps vs (all-fails isHostVerdict vs k (omega arith) (other e o)))
 
-  pub read-end : count ≤ k → k ≤ count → count ≤ 32 → (a b : List ℕ) → take k a ≡ take k ps → take k b ≡ take k vs → r ≡ hostsAnswer count a b → r ≡ messageAnswer ps vs
-  unfolding hostsAnswer
-  read-end h w fits a b p q e =
-      let i : k ≡ count = omega arith in
-      let f : take count a ≡ ps = rw i at p ∙ (ap (λ (n : ℕ). take n ps) counted ∙ take-length ps) in
-      let g : take count b ≡ vs = rw i at q ∙ (ap (λ (n : ℕ). take n vs) counted₂ ∙ take-length vs) in
-      e ∙ rw (le-leb count 32 fits, f, g)
-
 -- the first k numbers of ns stand at the front of a; v is what `number` gave
 pub filled-next : (ns a : List ℕ) (k n : ℕ) → take k a ≡ take k ns → n ≡ length ns → (v : ℕ) → v ≡ getD ns k 0 → k < n → length a ≡ 32 → n ≤ 32 → take (k + 1) (set a k v) ≡ take (k + 1) ns
 filled-next ns a k n inv counted v given h full fits = let w : k < length a = omega arith in rw (add-one k, take-suc-set a k v w, inv, given, take-suc ns k 0 (omega arith))
 
-pub ruleset read-laws = (read-preference, read-verdict, read-end, filled-next, needs)
+-- all numbers of the lists stand at the front of a and b; r is what `first_host` gave
+read-all : (ps vs : List ℕ) (count : ℕ) → count ≡ length ps → count ≡ length vs → count ≤ 32 → (a b : List ℕ) → take count a ≡ take count ps → take count b ≡ take count vs → (r : MessageAnswer) → r ≡ hostsAnswer count a b → r ≡ messageAnswer ps vs
+unfolding hostsAnswer
+read-all ps vs count counted counted₂ fits a b p q r e =
+    let f : take count a ≡ ps = p ∙ (ap (λ (n : ℕ). take n ps) counted ∙ take-length ps) in
+    let g : take count b ≡ vs = q ∙ (ap (λ (n : ℕ). take n vs) counted₂ ∙ take-length vs) in
+    e ∙ rw (le-leb count 32 fits, f, g)
+
+-- x and y, the last numbers, are put to them at place k
+pub read-last : (ps vs : List ℕ) (k count : ℕ) → count ≡ length ps → count ≡ length vs → count ≤ 32 → k < count → count ≤ k + 1 → (a b : List ℕ) → take k a ≡ take k ps → take k b ≡ take k vs → length a ≡ 32 → length b ≡ 32
+    → (x y : ℕ) → x ≡ getD ps k 0 → y ≡ getD vs k 0 → (r : MessageAnswer) → r ≡ hostsAnswer count (set a k x) (set b k y) → r ≡ messageAnswer ps vs
+read-last ps vs k count counted counted₂ fits h w a b p q fa fb x y gx gy r e =
+    let i : k + 1 ≡ count = omega arith in
+    let f : take count (set a k x) ≡ take count ps = rw i at (filled-next ps a k count p counted x gx h fa fits) in
+    let g : take count (set b k y) ≡ take count vs = rw i at (filled-next vs b k count q counted₂ y gy h fb fits) in
+    read-all ps vs count counted counted₂ fits (set a k x) (set b k y) f g r e
+
+pub ruleset read-laws = (read-preference, read-verdict, read-last, filled-next, needs)

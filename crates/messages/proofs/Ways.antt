@@ -100,7 +100,11 @@ module _ (ps vs : List ℕ) (count : ℕ) (r : MessageAnswer) where
 
 pub ruleset first-laws = (first-over, first-empty, first-walk, needs)
 
--- lists that are too long, or of unequal length, are no list of hosts
+-- lists that are empty, too long, or of unequal length, are no list of hosts
+empty-list : (ps vs : List ℕ) → length ps < 1 → isHostList ps vs ≡ false
+unfolding isHostList
+empty-list ps vs h = rw (lt-leb 1 (length ps) h)
+
 long-list : (ps vs : List ℕ) → 32 < length ps → isHostList ps vs ≡ false
 unfolding isHostList
 long-list ps vs h = rw (le-leb 1 (length ps) (omega arith), lt-leb (length ps) 32 h)
@@ -121,6 +125,10 @@ module _ (ps vs : List ℕ) (r : MessageAnswer) (w : Bool) (whole : w ≡ isWhol
     lists-left₂ f e = rw (sym whole, t, sym whole₂, f) e
 
     module _ (u : x ≡ true) (n : ℕ) (counted : n ≡ length (numbers ps)) where
+      pub lists-empty : n < 1 → r ≡ noHost 63 → r ≡ listsAnswer ps vs
+      unfolding listsAnswer messageAnswer
+      lists-empty h e = rw (sym whole, t, sym whole₂, u, empty-list (numbers ps) (numbers vs) (omega arith)) e
+
       pub lists-over : 32 < n → r ≡ noHost 63 → r ≡ listsAnswer ps vs
       unfolding listsAnswer messageAnswer
       lists-over h e = rw (sym whole, t, sym whole₂, u, long-list (numbers ps) (numbers vs) (omega arith)) e
@@ -130,14 +138,14 @@ module _ (ps vs : List ℕ) (r : MessageAnswer) (w : Bool) (whole : w ≡ isWhol
         unfolding listsAnswer messageAnswer
         lists-uneven d e = rw (sym whole, t, sym whole₂, u, uneven-list (numbers ps) (numbers vs) (λ q. d (omega arith))) e
 
-        pub lists-even : n ≤ 32 → m ≡ n → (n ≡ length (numbers ps)) × (n ≡ length (numbers vs)) × (n ≤ 32)
-        lists-even le even = (counted, sym even ∙ counted₂, le)
+        pub lists-even : 1 ≤ n → n ≤ 32 → m ≡ n → (n ≡ length (numbers ps)) × (n ≡ length (numbers vs)) × (0 < n) × (n ≤ 32)
+        lists-even ge le even = (counted, sym even ∙ counted₂, ge, le)
 
         pub lists-hosts : r ≡ messageAnswer (numbers ps) (numbers vs) → r ≡ listsAnswer ps vs
         unfolding listsAnswer
         lists-hosts e = rw (sym whole, t, sym whole₂, u) e
 
-pub ruleset lists-laws = (lists-left, lists-left₂, lists-over, lists-uneven, lists-even, lists-hosts, not-true, not-false, needs)
+pub ruleset lists-laws = (lists-left, lists-left₂, lists-empty, lists-over, lists-uneven, lists-even, lists-hosts, not-true, not-false, needs)
 
 -- `next_host`: r is its answer
 module _ (l : MxLookup) (ps vs : List ℕ) (r : MessageAnswer) where

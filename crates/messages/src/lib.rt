@@ -166,7 +166,7 @@ pub fn first_host(preferences: [u16; 32], verdicts: [u8; 32], count: usize) -> M
 
 // The answer of two lists of `count` numbers. They are read once, and go into arrays as far as they fit there: a number that does not is no preference, or no verdict.
 fn read_hosts(preferences: &[u8], verdicts: &[u8], count: usize) -> MessageAnswer
-    requires { ⌜ (count ≡ length (numbers (now preferences))) × (count ≡ length (numbers (now verdicts))) × (count ≤ 32) ⌝ }
+    requires { ⌜ (count ≡ length (numbers (now preferences))) × (count ≡ length (numbers (now verdicts))) × (0 < count) × (count ≤ 32) ⌝ }
     ensures { λ r. ⌜ r ≡ messageAnswer (numbers (now (preferences .entry))) (numbers (now (verdicts .entry))) ⌝ }
 {
     let mut p = [0u16; 32];
@@ -174,7 +174,7 @@ fn read_hosts(preferences: &[u8], verdicts: &[u8], count: usize) -> MessageAnswe
     let mut a = numbers::number(preferences, 0);
     let mut b = numbers::number(verdicts, 0);
     let mut k = 0;
-    while k < count {
+    loop {
         if 65535 < a {
             return no_host(63);
         }
@@ -184,10 +184,12 @@ fn read_hosts(preferences: &[u8], verdicts: &[u8], count: usize) -> MessageAnswe
         p[k] = a as u16;
         v[k] = b as u8;
         k += 1;
+        if count <= k {
+            return first_host(p, v, count);
+        }
         a = numbers::number(preferences, k);
         b = numbers::number(verdicts, k);
     }
-    first_host(p, v, count)
 }
 
 // The answer of the two lists, where the MX lookup was answered.
@@ -203,6 +205,9 @@ fn answer_of_lists(preferences: &[u8], verdicts: &[u8]) -> MessageAnswer
         return no_host(63);
     }
     let count = numbers::count(preferences);
+    if count < 1 {
+        return no_host(63);
+    }
     if 32 < count {
         return no_host(63);
     }

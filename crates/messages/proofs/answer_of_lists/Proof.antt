@@ -30,20 +30,26 @@ no-host-requires-3 c κs = search lists-laws
 returns-3 : tie.Need-returns-3
 returns-3 c = search lists-laws
 
-count-requires-2 : tie.Need-count-requires-2
-count-requires-2 c κs = search lists-laws
-
 no-host-requires-4 : tie.Need-no-host-requires-4
 no-host-requires-4 c κs = search lists-laws
 
 returns-4 : tie.Need-returns-4
 returns-4 c = search lists-laws
 
-read-hosts-requires : tie.Need-read-hosts-requires
-read-hosts-requires c κs = search lists-laws
+count-requires-2 : tie.Need-count-requires-2
+count-requires-2 c κs = search lists-laws
+
+no-host-requires-5 : tie.Need-no-host-requires-5
+no-host-requires-5 c κs = search lists-laws
 
 returns-5 : tie.Need-returns-5
 returns-5 c = search lists-laws
+
+read-hosts-requires : tie.Need-read-hosts-requires
+read-hosts-requires c κs = search lists-laws
+
+returns-6 : tie.Need-returns-6
+returns-6 c = search lists-laws
 
 pub answer-of-lists-spec : {M : Type 1} → statement M
 answer-of-lists-spec =
@@ -58,8 +64,10 @@ answer-of-lists-spec =
     count-requires
     no-host-requires-3
     returns-3
-    count-requires-2
     no-host-requires-4
     returns-4
+    count-requires-2
+    no-host-requires-5
+    returns-5
     read-hosts-requires
-    returns-5)
+    returns-6)

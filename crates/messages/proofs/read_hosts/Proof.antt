@@ -1,15 +1,14 @@
 -- `messages::read_hosts` meets its contract. Assumes nothing.
-use Prim.Native.Nat.{_≤_, _-_}
+use Prim.Native.Nat.{_<_, _-_}
 use mathlib.Core.Path.{_≡_}
 use lib.ListN.{length, getD, take}
 use Rattle.numbers.specs.Numbers.{numbers}
-use borrow.Author.Needs.{needs}
-use Rattle.messages.proofs.Arrays.{read-laws, filled-next}
+use Rattle.messages.proofs.Arrays.{read-laws}
 use Rattle.messages.proofs.read_hosts.Statement.{statement}
 use Rattle.messages.proofs.read_hosts.Tie as tie
 
 abbrev Inv-loop : tie.InvT-loop
-Inv-loop preferences verdicts count p₀ v₀ a₀ b₀ k₀ p v a b k = (k ≤ count) × (a ≡ getD (numbers preferences) k 0) × (b ≡ getD (numbers verdicts) k 0) × (length p ≡ 32) × (length v ≡ 32) × (take k p ≡ take k (numbers preferences)) × (take k v ≡ take k (numbers verdicts))
+Inv-loop preferences verdicts count p₀ v₀ a₀ b₀ k₀ p v a b k = (k < count) × (a ≡ getD (numbers preferences) k 0) × (b ≡ getD (numbers verdicts) k 0) × (length p ≡ 32) × (length v ≡ 32) × (take k p ≡ take k (numbers preferences)) × (take k v ≡ take k (numbers verdicts))
 
 abbrev μ-loop : tie.MeasureT-loop
 μ-loop preferences verdicts count p₀ v₀ a₀ b₀ k₀ p v a b k = count - k
@@ -53,6 +52,12 @@ array-write-v c = search read-laws
 add-k : tie.Need-add-k Inv-loop μ-loop
 add-k c = search read-laws
 
+first-host-requires : tie.Need-first-host-requires Inv-loop μ-loop
+first-host-requires c κs = search read-laws
+
+returns-3 : tie.Need-returns-3 Inv-loop μ-loop
+returns-3 c = search read-laws
+
 number-requires-3 : tie.Need-number-requires-3 Inv-loop μ-loop
 number-requires-3 c κs = search read-laws
 
@@ -63,13 +68,7 @@ loop-less : tie.Need-loop-less Inv-loop μ-loop
 loop-less c = search read-laws
 
 loop-again : tie.Need-loop-again Inv-loop μ-loop
-loop-again c = (search needs, search needs, search needs, search needs, search needs, search filled-next, search filled-next)
-
-first-host-requires : tie.Need-first-host-requires Inv-loop μ-loop
-first-host-requires c κs = search read-laws
-
-returns-3 : tie.Need-returns-3 Inv-loop μ-loop
-returns-3 c = search read-laws
+loop-again c = search read-laws
 
 pub read-hosts-spec : {M : Type 1} → statement M
 read-hosts-spec =
@@ -90,9 +89,9 @@ read-hosts-spec =
     cast-v
     array-write-v
     add-k
+    first-host-requires
+    returns-3
     number-requires-3
     number-requires-4
     loop-less
-    loop-again
-    first-host-requires
-    returns-3)
+    loop-again)
