@@ -1,7 +1,7 @@
 -- The ways out of the stages of the walk. Assumes nothing.
 use Prim.Native.Nat.{ℕ, _+_}
 use mathlib.Core.Path.{_≡_, refl, sym, _∙_}
-use mathlib.Core.Bool.{Bool, true, false, cond, not, _||_}
+use mathlib.Core.Bool.{Bool, true, false, cond, not, _&&_, _||_}
 use mathlib.Core.List.{List}
 use mathlib.Core.Option.{none, some}
 use lib.Dec.{eqb, leb}
@@ -9,7 +9,8 @@ use borrow.Author.Needs.{needs}
 use borrow.Author.Tests.{not-true, not-false, ne-eqb}
 use Rattle.clock.specs.Clock.{isLive}
 use Rattle.policies.specs.declared.PolicyAnswer.{PolicyAnswer}
-use Rattle.policies.specs.Policy.{policyAnswer, patternsOf, someMatches}
+use Rattle.policies.specs.declared.PolicyFor.{PolicyFor}
+use Rattle.policies.specs.Policy.{policyFor}
 use Rattle.tlsa.specs.declared.Address.{Address}
 use Rattle.tlsa.specs.declared.Address.the-variants as A
 use Rattle.tlsa.specs.declared.Lookup.{Lookup}
@@ -35,7 +36,7 @@ use Rattle.hosts.specs.declared.Connection.{Connection}
 use Rattle.hosts.specs.Facts.{established, failed, isGiven}
 use Rattle.hosts.specs.Rules.{isAuthentication, isTls, lastVerdict}
 use Rattle.hosts.specs.Arguments.{originOf, addressOf, lookupOf, offeredOf, outcomeOf, when}
-use Rattle.hosts.specs.Stages.{noPolicy, givenPolicy, policyNeeds, unlisted, readGiven, laterGiven, asking, saying, heeded, hostRead, atHost, expandedRead, atExpanded, triesOf, namesStage, firstStage, handshakeStage, connection, certificateVerdict, foundAnswer, walkAnswer}
+use Rattle.hosts.specs.Stages.{noPolicy, givenPolicy, policyNeeds, readGiven, laterGiven, asking, saying, heeded, hostRead, atHost, expandedRead, atExpanded, triesOf, namesStage, firstStage, handshakeStage, connection, certificateVerdict, foundAnswer, walkAnswer}
 
 -- `ask`
 module _ (number n : ℕ) (later : Bool) (x : HostAnswer) where
@@ -48,12 +49,12 @@ module _ (number n : ℕ) (later : Bool) (x : HostAnswer) where
 pub ruleset ask-laws = (ask-early, ask-now, needs)
 
 -- `given_policy`
-module _ (given : ℕ) (body : List ℕ) where
-  pub policy-given : given ≡ 1 → (x : PolicyAnswer) → x ≡ policyAnswer body → x ≡ givenPolicy given body
+module _ (given : ℕ) (body host : List ℕ) where
+  pub policy-given : given ≡ 1 → (x : PolicyFor) → x ≡ policyFor body host → x ≡ givenPolicy given body host
   unfolding givenPolicy
   policy-given h x e = cc
 
-  pub policy-none : (given ≡ 1 → ⊥) → noPolicy ≡ givenPolicy given body
+  pub policy-none : (given ≡ 1 → ⊥) → noPolicy ≡ givenPolicy given body host
   unfolding givenPolicy
   policy-none h = cc (ne-eqb given 1 h)
 
@@ -72,14 +73,12 @@ module _ (p : PolicyAnswer) (fetched clock : ℕ) where
 pub ruleset policy-needs-laws = (needs-other, needs-live, needs)
 
 -- `is_unlisted`
-module _ (e : Bool) (host body : List ℕ) where
-  pub unlisted-not : e ≡ false → false ≡ unlisted e host body
-  unfolding unlisted
+module _ (e t : Bool) where
+  pub unlisted-not : e ≡ false → false ≡ (e && not t)
   unlisted-not h = rw h
 
-  pub unlisted-by : e ≡ true → (t : Bool) → t ≡ someMatches host (patternsOf body) → not t ≡ unlisted e host body
-  unfolding unlisted
-  unlisted-by h t te = rw (h, te)
+  pub unlisted-by : e ≡ true → not t ≡ (e && not t)
+  unlisted-by h = rw h
 
 pub ruleset unlisted-laws = (unlisted-not, unlisted-by, not-true, not-false, needs)
 

@@ -10,7 +10,8 @@ use Rattle.numbers.specs.Numbers.{numbers}
 use Rattle.names.specs.Name.{isName}
 use Rattle.clock.specs.Clock.{isLive}
 use Rattle.policies.specs.declared.PolicyAnswer.{PolicyAnswer}
-use Rattle.policies.specs.Policy.{policyAnswer, patternsOf, someMatches}
+use Rattle.policies.specs.declared.PolicyFor.{PolicyFor}
+use Rattle.policies.specs.Policy.{policyFor}
 use Rattle.tlsa.specs.declared.Address.{Address}
 use Rattle.tlsa.specs.declared.Address.the-variants.{NoAliasSecure, NoAliasInsecure, AliasSecure, AliasFirstStepSecure, AliasFirstStepInsecure, Failed, NoAddress}
 use Rattle.tlsa.specs.declared.Needs.{Needs}
@@ -78,20 +79,16 @@ lastRefusal a = cond (answersFit a) (cond (certificatesFit a) 0 65) 64
 -- the policy
 
 -- what stands for a policy that is not given: it is no refusal, and needs nothing
-abbrev pub noPolicy : PolicyAnswer
-noPolicy = record { number = 7; mode = 3; lifetime = 0; «mx_count» = 0 }
+abbrev pub noPolicy : PolicyFor
+noPolicy = record { answer = record { number = 7; mode = 3; lifetime = 0; «mx_count» = 0 }; listed = false }
 
--- the answer to the policy, where one is given
-unfoldable pub givenPolicy : ℕ → List ℕ → PolicyAnswer
-givenPolicy given body = cond (eqb given 1) (policyAnswer body) noPolicy
+-- the answer to the policy, and whether it lists the host, where one is given
+unfoldable pub givenPolicy : ℕ → (body host : List ℕ) → PolicyFor
+givenPolicy given body host = cond (eqb given 1) (policyFor body host) noPolicy
 
 -- a live enforce policy
 unfoldable pub policyNeeds : PolicyAnswer → (fetched clock : ℕ) → Bool
 policyNeeds p fetched clock = eqb (p .mode) 1 && isLive fetched (p .lifetime) clock
-
--- a live enforce policy is there, and none of its patterns matches the host
-unfoldable pub unlisted : Bool → (host body : List ℕ) → Bool
-unlisted needed host body = needed && not (someMatches host (patternsOf body))
 
 -- the TLSA answers
 

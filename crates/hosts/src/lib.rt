@@ -86,7 +86,8 @@ pub fn judge_host<'a>(
     if first != 0 {
         return walk::say(first, 0);
     }
-    let read = walk::given_policy(n.policy_given, policy);
+    let given = walk::given_policy(n.policy_given, policy, host);
+    let read = given.answer;
     if read.number != policies::ACCEPTED {
         return walk::say(read.number, 0);
     }
@@ -109,7 +110,7 @@ pub fn judge_host<'a>(
         return walk::say(last, 0);
     }
     let sts = walk::policy_needs(read, n.fetched, n.clock);
-    let unlisted = walk::is_unlisted(sts, host, policy);
+    let unlisted = walk::is_unlisted(sts, given.listed);
     walk::walk_facts(
         n,
         sts,

@@ -1,6 +1,6 @@
 // The walk over the facts that are given.
 ghost use mathlib.Core.Path.{_≡_};
-ghost use mathlib.Core.Bool.{cond, not, _||_};
+ghost use mathlib.Core.Bool.{cond, not, _&&_, _||_};
 ghost use Prim.Native.Nat.{_≤_};
 ghost use lib.Dec.{eqb};
 ghost use Rattle.tlsa.specs.Answer.{recordsOf, answerOf};
@@ -8,7 +8,7 @@ ghost use Rattle.certificates.specs.Facts.{presentedOf};
 ghost use Rattle.certificates.specs.Checks.{references, danePasses, showsHost};
 ghost use Rattle.hosts.specs.Rules.{isAuthentication, isTls, lastVerdict};
 ghost use Rattle.hosts.specs.Arguments.{lookupOf, offeredOf, outcomeOf, when};
-ghost use Rattle.hosts.specs.Stages.{givenPolicy, policyNeeds, unlisted, readGiven, laterGiven, asking, saying, hostRead, atHost, expandedRead, atExpanded, namesStage, firstStage, handshakeStage, connection, certificateVerdict, foundAnswer, walkAnswer};
+ghost use Rattle.hosts.specs.Stages.{givenPolicy, policyNeeds, readGiven, laterGiven, asking, saying, hostRead, atHost, expandedRead, atExpanded, namesStage, firstStage, handshakeStage, connection, certificateVerdict, foundAnswer, walkAnswer};
 use super::Connection;
 use super::Found;
 use super::HostAnswer;
@@ -19,6 +19,7 @@ use certificates::Origin;
 use clock::Lifetime;
 use clock::Reading;
 use policies::PolicyAnswer;
+use policies::PolicyFor;
 use tlsa::Needs;
 use tlsa::Read;
 use tlsa::Tries;
@@ -43,18 +44,21 @@ fn ask(number: u64, questions: u64, later: bool) -> HostAnswer
     say(number, questions)
 }
 
-// The answer to the policy; where none is given, one that is no refusal and needs nothing.
-pub fn given_policy(given: u64, body: &[u8]) -> PolicyAnswer
-    ensures { λ r. ⌜ r ≡ givenPolicy given (now (body .entry)) ⌝ }
+// The answer to the policy, and whether it lists the host; where none is given, an answer that is no refusal and needs nothing.
+pub fn given_policy(given: u64, body: &[u8], host: &[u8]) -> PolicyFor
+    ensures { λ r. ⌜ r ≡ givenPolicy given (now (body .entry)) (now (host .entry)) ⌝ }
 {
     if given == 1 {
-        return policies::read_policy(body);
+        return policies::read_policy_for(body, host);
     }
-    PolicyAnswer {
-        number: policies::ACCEPTED,
-        mode: policies::NONE,
-        lifetime: 0,
-        mx_count: 0,
+    PolicyFor {
+        answer: PolicyAnswer {
+            number: policies::ACCEPTED,
+            mode: policies::NONE,
+            lifetime: 0,
+            mx_count: 0,
+        },
+        listed: false,
     }
 }
 
@@ -72,14 +76,13 @@ pub fn policy_needs(policy: PolicyAnswer, fetched: u64, present: u64) -> bool
     )
 }
 
-// Whether the MTA-STS check is needed and none of the policy's patterns matches the host.
-pub fn is_unlisted(needed: bool, host: &[u8], body: &[u8]) -> bool
-    ensures { λ r. ⌜ r ≡ unlisted needed (now (host .entry)) (now (body .entry)) ⌝ }
+// Whether the MTA-STS check is needed and the policy does not list the host.
+pub fn is_unlisted(needed: bool, listed: bool) -> bool
+    ensures { λ r. ⌜ r ≡ (needed && not listed) ⌝ }
 {
     if !needed {
         return false;
     }
-    let listed = policies::some_pattern_matches(body, host);
     !listed
 }
 

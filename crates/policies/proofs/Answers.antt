@@ -1,37 +1,31 @@
--- The ways out of `read_policy` and of `some_pattern_matches`, and of the functions that they call. Assumes nothing.
-use Prim.Native.Nat.{ℕ, _+_, _-_, _<_, _≤_}
+-- The ways out of `read_policy` and `read_policy_for`, and of the functions that they call. Assumes nothing.
+use Prim.Native.Nat.{ℕ, _<_, _≤_}
 use mathlib.Core.Path.{_≡_, refl, sym, _∙_}
-use mathlib.Core.Bool.{Bool, true, false, cond, _&&_, _||_}
+use mathlib.Core.Bool.{Bool, true, false, cond, _||_, and-false}
 use mathlib.Core.List.{List, [], _∷_}
 use mathlib.Core.Option.{Option, none, some}
 use native.Mathlib.Omega.{arith}
-use lib.Dec.{ltb}
-use lib.ListN.{length, take, drop, drop-of-length-le}
+use lib.Dec.{eqb, ltb}
+use lib.ListN.{length}
 use borrow.Author.Needs.{needs}
 use borrow.Author.Tests.{not-true, not-false, lt-ltb, le-ltb}
-use Rattle.lists.specs.Bytes.{any}
-use Rattle.lists.specs.Equal.{sameBytes}
-use Rattle.lists.specs.Split.{indexOf}
 use Rattle.lists.specs.Text.{text}
 use Rattle.lists.proofs.Bools.{never}
-use Rattle.names.specs.Name.{isName, matchesName}
-use Rattle.names.specs.Scan.{coversName}
-use Rattle.names.proofs.Cover.{matches-covers}
 use Rattle.clock.specs.declared.Lifetime.{Lifetime}
 use Rattle.clock.specs.Clock.{lifetimeOf}
 use Rattle.policies.specs.declared.Mode.{Mode}
 use Rattle.policies.specs.declared.Mode.the-variants as M
 use Rattle.policies.specs.declared.Fault.{Fault}
-use Rattle.policies.specs.declared.MaybeMode.{MaybeMode}
 use Rattle.policies.specs.declared.MaybeAge.{MaybeAge}
 use Rattle.policies.specs.declared.PolicyAnswer.{PolicyAnswer}
+use Rattle.policies.specs.declared.PolicyFor.{PolicyFor}
 use Rattle.policies.specs.declared.Seen.{Seen}
 use Rattle.policies.specs.declared.Checked.{Checked}
 use Rattle.policies.specs.Lines.{lines}
-use Rattle.policies.specs.Fields.{nameOf, valueOf, isNamed, anyNamed, patterns}
-use Rattle.policies.specs.Policy.{incomplete, policy, bodyFault, firstMode, firstAge, hasPatterns, complete, completed, judged, readBody, modeNumber, refused, answerTo, policyAnswer, patternsOf, someMatches}
-use Rattle.policies.specs.Reader.{textEnd, heldMode, heldAge, seenIn, outcome, checked, accepted, enough, answerWith, answerOf, lineCovers}
-use Rattle.policies.proofs.Body.{line-here, text-after, text-within}
+use Rattle.policies.specs.Fields.{anyNamed, patterns}
+use Rattle.policies.specs.Policy.{incomplete, policy, bodyFault, firstMode, firstAge, hasPatterns, complete, completed, judged, readBody, modeNumber, refused, answerTo, policyAnswer, patternsOf, someCovers, policyFor}
+use Rattle.policies.specs.Reader.{heldMode, heldAge, holdsMode, modeHeld, seenIn, outcome, checked, accepted, enough, answerIn, answerWith, answerOf, forHost}
+use Rattle.policies.proofs.Same.{none-held, mode-held}
 
 -- `mode_number` and `is_enough`: by each mode
 module _ (mode : Mode) where
@@ -77,24 +71,24 @@ module _ (r : Seen) (m : ℕ) (x : PolicyAnswer) where
   unfolding answerOf answerWith
   no-version h e = rw h e
 
-  module _ (v : r .version ≡ true) where
-    pub no-mode : r .mode ≡ MaybeMode.Nothing → x ≡ refused 52 → x ≡ answerOf r m
+  module _ (v : r .version ≡ true) (held : Bool) (k : held ≡ holdsMode (r .mode)) where
+    pub no-mode : held ≡ false → x ≡ refused 52 → x ≡ answerOf r m
     unfolding answerOf answerWith
-    no-mode h e = rw (v, h) e
+    no-mode h e = rw (v, sym k, h) e
 
-    module _ (mode : Mode) (w : r .mode ≡ MaybeMode.Is mode) where
+    module _ (w : held ≡ true) (mode : Mode) (i : mode ≡ modeHeld (r .mode)) where
       pub no-age : r .age ≡ MaybeAge.Nothing → x ≡ refused 52 → x ≡ answerOf r m
-      unfolding answerOf answerWith
-      no-age h e = rw (v, w, h) e
+      unfolding answerOf answerWith answerIn
+      no-age h e = rw (v, sym k, w, h) e
 
       module _ (age : ℕ) (u : r .age ≡ MaybeAge.Is age) (good : Bool) (g : good ≡ enough mode m) where
         pub too-few : good ≡ false → x ≡ refused 52 → x ≡ answerOf r m
-        unfolding answerOf answerWith
-        too-few h e = rw (v, w, u, sym g, h) e
+        unfolding answerOf answerWith answerIn
+        too-few h e = rw (v, sym k, w, u, sym i, sym g, h) e
 
         pub complete-good : good ≡ true → x ≡ accepted mode age m → x ≡ answerOf r m
-        unfolding answerOf answerWith
-        complete-good h e = rw (v, w, u, sym g, h) e
+        unfolding answerOf answerWith answerIn
+        complete-good h e = rw (v, sym k, w, u, sym i, sym g, h) e
 
 pub ruleset answer-laws = (no-version, no-mode, no-age, too-few, complete-good, not-true, not-false, needs)
 
@@ -105,116 +99,76 @@ enough-patterns M.Enforce ps = refl
 enough-patterns M.Testing ps = refl
 enough-patterns M.None ps = refl
 
+held-again : (mode : Mode) → modeHeld (heldMode (some mode)) ≡ mode
+unfolding modeHeld heldMode
+held-again M.Enforce = refl
+held-again M.Testing = refl
+held-again M.None = refl
+
 answer-same : (v : Bool) (mode : Option Mode) (age : Option ℕ) (ps : List (List ℕ)) → answerWith v (heldMode mode) (heldAge age) (length ps) ≡ answerTo (complete v mode age ps)
-unfolding answerWith heldMode heldAge complete answerTo accepted
+unfolding answerWith answerIn heldAge complete answerTo accepted
 answer-same false mode age ps = refl
-answer-same true none age ps = refl
-answer-same true (some mode) none ps = refl
-answer-same true (some mode) (some age) ps = rw (enough-patterns mode ps) (go (hasPatterns mode ps))
+answer-same true none age ps = rw none-held
+answer-same true (some mode) none ps = rw (mode-held mode)
+answer-same true (some mode) (some age) ps = rw (mode-held mode, held-again mode, enough-patterns mode ps) (go (hasPatterns mode ps))
   where
     go : (t : Bool) → cond t (accepted mode age (length ps)) (refused 52) ≡ answerTo (cond t (policy (record { mode = mode; lifetime = lifetimeOf age; patterns = ps })) incomplete)
     go true = refl
     go false = refl
 
--- `read_policy`: c is what `check` gave
-pub too-long : (s : List ℕ) (x : PolicyAnswer) → 65536 < length s → x ≡ refused 50 → x ≡ policyAnswer s
-unfolding policyAnswer readBody answerTo
-too-long s x h e = rw (lt-ltb 65536 (length s) h) e
+-- `for_host`
+module _ (a : PolicyAnswer) (x : Bool) where
+  pub unlisted : x ≡ false → _≡_ {A = PolicyFor} (record { answer = a; listed = x }) (forHost a x)
+  unfolding forHost
+  unlisted e = rw e
 
-module _ (s : List ℕ) (x : PolicyAnswer) (c : Checked) (g : c ≡ checked s) (h : length s ≤ 65536) where
-  pub malformed-body : (b : Fault) → c ≡ Checked.Refused b → x ≡ refused 51 → x ≡ policyAnswer s
-  unfolding policyAnswer readBody checked judged outcome answerTo
-  malformed-body b k e = rw (le-ltb 65536 (length s) h) (go (bodyFault s) (sym g ∙ k))
-    where
-      go : (f : Option Fault) → outcome (seenIn (lines s)) (length (patterns (lines s))) f ≡ Checked.Refused b → x ≡ answerTo (judged f (lines s))
-      go none k = never cc
-      go (some f) k = e
+  pub listed : x ≡ true → _≡_ {A = PolicyFor} (record { answer = a; listed = eqb (a .number) 7 }) (forHost a x)
+  unfolding forHost
+  listed e = rw e
 
-  pub sound-body : (r : Seen) (m : ℕ) → c ≡ Checked.Read r m → x ≡ answerOf r m → x ≡ policyAnswer s
-  unfolding policyAnswer readBody checked judged outcome completed answerOf seenIn
-  sound-body r m k e = rw (le-ltb 65536 (length s) h) (go (bodyFault s) (sym g ∙ k))
-    where
-      go : (f : Option Fault) → outcome (seenIn (lines s)) (length (patterns (lines s))) f ≡ Checked.Read r m → x ≡ answerTo (judged f (lines s))
-      go none k =
-          let p : r ≡ seenIn (lines s) = cc in
-          let q : m ≡ length (patterns (lines s)) = cc in
-          e ∙ rw (p, q) (answer-same (anyNamed (text "version") (lines s)) (firstMode (lines s)) (firstAge (lines s)) (patterns (lines s)))
-      go (some f) k = never cc
+pub ruleset host-laws = (unlisted, listed, needs)
 
-pub ruleset policy-laws = (too-long, malformed-body, sound-body, needs)
+-- a refusal lists no host
+refused-for : (number : ℕ) → eqb number 7 ≡ false → (x y : Bool) → forHost (refused number) x ≡ forHost (refused number) y
+unfolding forHost
+refused-for number e x y = rw (e, and-false x, and-false y)
 
--- `line_covers`: e is where `find` found the colon, q whether the name before it is `mx`
-module _ (host l : List ℕ) (e : ℕ) (f : e ≡ 0 + indexOf 58 (drop 0 l)) where
-  pub no-colon : length l ≤ e → false ≡ lineCovers host l
-  unfolding lineCovers isNamed
-  no-colon h = rw (le-ltb (indexOf 58 l) (length l) (omega arith))
+-- `read_body`: c is what `check` gave, r is the answer
+module _ (s host : List ℕ) (x : Bool) (a : PolicyAnswer) (r : PolicyFor) where
+  pub too-long : 65536 < length s → a ≡ refused 50 → r ≡ forHost a false → r ≡ forHost (policyAnswer s) (x || someCovers host (patternsOf s))
+  unfolding policyAnswer readBody answerTo
+  too-long h e f = rw (lt-ltb 65536 (length s) h) (f ∙ rw e (refused-for 50 refl false (x || someCovers host (patternsOf s))))
 
-  module _ (w : e < length l) (q : Bool) (g : q ≡ sameBytes (take (e - 0) l) (text "mx")) where
-    named : isNamed (text "mx") l ≡ q
-    unfolding isNamed nameOf
-    named =
-        let k : indexOf 58 l ≡ e - 0 = omega arith in
-        rw (lt-ltb (indexOf 58 l) (length l) (omega arith), k) (sym g)
+  module _ (c : Checked) (g : c ≡ checked host x s) (h : length s ≤ 65536) where
+    pub malformed-body : (b : Fault) → c ≡ Checked.Refused b → a ≡ refused 51 → r ≡ forHost a false → r ≡ forHost (policyAnswer s) (x || someCovers host (patternsOf s))
+    unfolding policyAnswer readBody checked judged outcome answerTo
+    malformed-body b k e i = rw (le-ltb 65536 (length s) h) (go (bodyFault s) (sym g ∙ k))
+      where
+        go : (f : Option Fault) → outcome (seenIn (lines s)) (length (patterns (lines s))) (x || someCovers host (patterns (lines s))) f ≡ Checked.Refused b → r ≡ forHost (answerTo (judged f (lines s))) (x || someCovers host (patternsOf s))
+        go none k = never cc
+        go (some f) k = i ∙ rw e (refused-for 51 refl false (x || someCovers host (patternsOf s)))
 
-    pub other-name : q ≡ false → false ≡ lineCovers host l
-    unfolding lineCovers
-    other-name h = rw (named, h)
+    pub sound-body : (q : Seen) (m : ℕ) (y : Bool) → c ≡ Checked.Read q m y → a ≡ answerOf q m → r ≡ forHost a y → r ≡ forHost (policyAnswer s) (x || someCovers host (patternsOf s))
+    unfolding policyAnswer readBody checked judged outcome completed answerOf seenIn patternsOf
+    sound-body q m y k e i = rw (le-ltb 65536 (length s) h) (go (bodyFault s) (sym g ∙ k))
+      where
+        go : (f : Option Fault) → outcome (seenIn (lines s)) (length (patterns (lines s))) (x || someCovers host (patterns (lines s))) f ≡ Checked.Read q m y → r ≡ forHost (answerTo (judged f (lines s))) (x || someCovers host (patterns (lines s)))
+        go none k =
+            let u : q ≡ seenIn (lines s) = cc in
+            let v : m ≡ length (patterns (lines s)) = cc in
+            let w : y ≡ (x || someCovers host (patterns (lines s))) = cc in
+            i ∙ rw (w, e, u, v, answer-same (anyNamed (text "version") (lines s)) (firstMode (lines s)) (firstAge (lines s)) (patterns (lines s)))
+        go (some f) k = never cc
 
-    pub mx-line : q ≡ true → (v : List ℕ) → v ≡ valueOf l → (x : Bool) → x ≡ coversName v host → x ≡ lineCovers host l
-    unfolding lineCovers
-    mx-line h v y x z = rw (named, h) (z ∙ rw y)
+pub ruleset body-laws = (too-long, malformed-body, sound-body, needs)
 
-  pub colon-found : e ≡ indexOf 58 l
-  colon-found = omega arith
+-- `read_policy` and `read_policy_for`: r is what `read_body` gave
+pub answer-alone : (s host : List ℕ) (x : Bool) (r : PolicyFor) → r ≡ forHost (policyAnswer s) (x || someCovers host (patternsOf s)) → r .answer ≡ policyAnswer s
+unfolding forHost
+answer-alone s host x r e = rw e
 
-pub ruleset covers-laws = (no-colon, other-name, mx-line, colon-found, not-true, not-false, needs)
+pub answer-for : (s host : List ℕ) (r : PolicyFor) → r ≡ forHost (policyAnswer s) (false || someCovers host (patternsOf s)) → r ≡ policyFor s host
+unfolding forHost policyFor
+answer-for s host r e = e
 
--- no pattern matches what is no name
-not-matched : (p host : List ℕ) → isName host ≡ false → matchesName p host ≡ false
-unfolding matchesName
-not-matched p host h = rw h
-
-no-name : (host : List ℕ) (ps : List (List ℕ)) → isName host ≡ false → someMatches host ps ≡ false
-unfolding any
-no-name host [] h = refl
-no-name host (p ∷ ps) h = rw (not-matched p host h, no-name host ps h)
-
--- `some_pattern_matches`: k is what `is_name` gave
-pub matches-no-name : (s host : List ℕ) (k : Bool) → k ≡ isName host → k ≡ false → false ≡ someMatches host (patternsOf s)
-matches-no-name s host k g e = sym (no-name host (patternsOf s) (sym g ∙ e))
-
--- one line more
-matches-line : (host l : List ℕ) (ls : List (List ℕ)) → isName host ≡ true → someMatches host (patterns (l ∷ ls)) ≡ (lineCovers host l || someMatches host (patterns ls))
-unfolding patterns lineCovers any
-matches-line host l ls h = go (isNamed (text "mx") l)
-  where
-    go : (t : Bool) → someMatches host (cond t (valueOf l ∷ patterns ls) (patterns ls)) ≡ ((t && coversName (valueOf l) host) || someMatches host (patterns ls))
-    go true = rw (matches-covers (valueOf l) host h)
-    go false = refl
-
-pub matches-start : (s host : List ℕ) → someMatches host (patternsOf s) ≡ someMatches host (patterns (lines s))
-unfolding patternsOf
-matches-start s host = refl
-
-module _ (s host : List ℕ) (at : ℕ) (inv : someMatches host (patternsOf s) ≡ someMatches host (patterns (lines (drop at s)))) where
-  pub matches-none : length s ≤ at → false ≡ someMatches host (patternsOf s)
-  unfolding lines patterns any
-  matches-none h = sym (inv ∙ rw (drop-of-length-le s h))
-
-  module _ (e t : ℕ) (h : at < length s) (f : e ≡ at + indexOf 10 (drop at s)) (x : t ≡ textEnd s at e) (b : Bool) (g : b ≡ lineCovers host (take (t - at) (drop at s))) (k : Bool) (y : k ≡ isName host) (z : k ≡ true) where
-    here : someMatches host (patternsOf s) ≡ (b || someMatches host (patterns (lines (drop (e + 1) s))))
-    here = inv ∙ rw (line-here s at e t f x h) (matches-line host (take (t - at) (drop at s)) (lines (drop (e + 1) s)) (sym y ∙ z) ∙ rw g)
-
-    pub matches-hit : b ≡ true → true ≡ someMatches host (patternsOf s)
-    matches-hit w = sym (here ∙ rw w)
-
-    pub matches-next : b ≡ false → someMatches host (patternsOf s) ≡ someMatches host (patterns (lines (drop (e + 1) s)))
-    matches-next w = here ∙ rw w
-
-    pub matches-last : b ≡ false → length s ≤ e → false ≡ someMatches host (patternsOf s)
-    unfolding lines patterns any
-    matches-last w v =
-        let n : length s ≤ e + 1 = omega arith in
-        sym (here ∙ rw (w, drop-of-length-le s n))
-
-pub ruleset matches-laws = (matches-start, matches-no-name, not-true, not-false, matches-none, matches-hit, matches-next, matches-last, text-after, text-within, needs)
+pub ruleset policy-laws = (answer-alone, answer-for, needs)

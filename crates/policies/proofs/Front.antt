@@ -114,9 +114,9 @@ has-same s at = ap (hasName 58) (line-is s at) ∙ line-name (drop at s)
 
 -- `take_line`: f is what `name_end` gave
 module _ (s : List ℕ) (at : ℕ) (f : Field) (g : f ≡ fieldAt 58 s at) where
-  pub turn-malformed : (r : Seen) → f ≡ Field.Malformed → Turn.Broken Cause.Form ≡ turnAt r s at
+  pub turn-malformed : (h : List ℕ) (x : Bool) (r : Seen) → f ≡ Field.Malformed → Turn.Broken Cause.Form ≡ turnAt h x r s at
   unfolding turnAt takeLine isLine placed
-  turn-malformed r e = rw (has-same s at, malformed-has 58 s at f g e)
+  turn-malformed h x r e = rw (has-same s at, malformed-has 58 s at f g e)
 
   module _ (colon : ℕ) (e : f ≡ Field.Named colon) where
     pub turn-named : Field.Named colon ≡ fieldAt 58 s at
@@ -205,20 +205,20 @@ module _ (s : List ℕ) (at colon : ℕ) (named : Field.Named colon ≡ fieldAt 
             go false k low = lt-leb t p (omega (arith, leb-false (t - (colon + 1)) (spanOf printable (drop (colon + 1) s)) k)) ∙ sym k
 
         -- the turn by the line's step
-        module _ (r : Seen) (st : Step) (g : st ≡ takeLine r (take (t - at) (drop at s))) where
-          turn-is : placed st (e + 1) ≡ turnAt r s at
+        module _ (h : List ℕ) (y : Bool) (r : Seen) (st : Step) (g : st ≡ takeLine h y r (take (t - at) (drop at s))) where
+          turn-is : placed st (e + 1) ≡ turnAt h y r s at
           unfolding turnAt lineEnd
           turn-is = rw (g, line-here, end-is)
 
-          pub turn-broken : (c : Cause) → st ≡ Step.Broken c → Turn.Broken c ≡ turnAt r s at
+          pub turn-broken : (c : Cause) → st ≡ Step.Broken c → Turn.Broken c ≡ turnAt h y r s at
           unfolding placed
           turn-broken c k = rw k at turn-is
 
-          pub turn-pattern : st ≡ Step.Pattern → Turn.Pattern (e + 1) ≡ turnAt r s at
+          pub turn-pattern : (z : Bool) → st ≡ Step.Pattern z → Turn.Pattern z (e + 1) ≡ turnAt h y r s at
           unfolding placed
-          turn-pattern k = rw k at turn-is
+          turn-pattern z k = rw k at turn-is
 
-          pub turn-next : (q : Seen) → st ≡ Step.Next q → Turn.Next q (e + 1) ≡ turnAt r s at
+          pub turn-next : (q : Seen) → st ≡ Step.Next q → Turn.Next q (e + 1) ≡ turnAt h y r s at
           unfolding placed
           turn-next q k = rw k at turn-is
 

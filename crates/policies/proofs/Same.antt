@@ -1,7 +1,7 @@
 -- The reader goes line by line, with the fields seen so far. It finds what the definition says: the first fault, or the fields of all lines. Assumes nothing.
 use Prim.Native.Nat.{ℕ, suc, _+_, _-_, _<_, _≤_}
 use mathlib.Core.Path.{_≡_, refl, sym, ap, _∙_}
-use mathlib.Core.Bool.{Bool, true, false, cond, not, _&&_, _||_, or-false}
+use mathlib.Core.Bool.{Bool, true, false, cond, not, _&&_, _||_, or-false, or-assoc}
 use mathlib.Core.List.{List, [], _∷_}
 use mathlib.Core.Option.{Option, none, some}
 use native.Mathlib.Nat.{add-zero}
@@ -17,9 +17,11 @@ use Rattle.lists.specs.Text.{text}
 use Rattle.lists.proofs.Agree.{same-bytes}
 use Rattle.lists.proofs.Bools.{never}
 use Rattle.names.specs.Name.{isPattern}
+use Rattle.names.specs.Scan.{coversName}
 use Rattle.fields.specs.Name.{hasName}
 use Rattle.fields.proofs.Name.{has-inside}
 use Rattle.policies.specs.declared.Mode.{Mode}
+use Rattle.policies.specs.declared.Mode.the-variants as M
 use Rattle.policies.specs.declared.Cause.{Cause}
 use Rattle.policies.specs.declared.Kind.{Kind}
 use Rattle.policies.specs.declared.Kind.the-variants as K
@@ -36,30 +38,37 @@ use Rattle.policies.specs.declared.Checked.{Checked}
 use Rattle.policies.specs.Texts.{isValue}
 use Rattle.policies.specs.Lines.{lines, lineStart}
 use Rattle.policies.specs.Fields.{nameOf, valueOf, isLine, isNamed, anyNamed, firstNamed, patterns, isVersion, modeOf, ageOf, isThere, isFirst, causeAfter}
-use Rattle.policies.specs.Policy.{faultAt, orLater, firstFault, bodyFault, modeIn, ageIn, firstMode, firstAge}
+use Rattle.policies.specs.Policy.{faultAt, orLater, firstFault, bodyFault, modeIn, ageIn, firstMode, firstAge, someCovers}
 use Rattle.policies.specs.Reader.{kindOf, heldMode, heldAge, holdsMode, holdsAge, newMode, newAge, takeVersion, takeMode, takeAge, takeMx, takeField, takeLine, lineEnd, lineAt, placed, turnAt, seenIn, outcome, checked}
 use Rattle.policies.proofs.Body.{lines-at, next-after, next-within, next-start}
 
--- what a step leaves: an end, the fields, and the count of patterns
+-- what a step leaves: an end, the fields, the count of patterns, and whether the host is listed
 unfoldable pub stopOr : List ℕ → ℕ → Step → Checked → Checked
 stopOr s n (Broken cause) later = Checked.Refused (faultAt s n cause)
 stopOr s n (Next r) later = later
-stopOr s n Pattern later = later
+stopOr s n (Pattern y) later = later
 
 unfoldable pub seenAfter : Seen → Step → Seen
 seenAfter r (Broken cause) = r
 seenAfter r (Next q) = q
-seenAfter r Pattern = r
+seenAfter r (Pattern y) = r
 
 unfoldable pub countAfter : ℕ → Step → ℕ
 countAfter m (Broken cause) = m
 countAfter m (Next q) = m
-countAfter m Pattern = m + 1
+countAfter m (Pattern y) = m + 1
 
--- the reader, over the lines that are left: r are the fields seen, m the patterns and n the lines passed
-unfoldable pub run : List ℕ → Seen → ℕ → ℕ → List (List ℕ) → Checked
-run s r m n [] = Checked.Read r m
-run s r m n (l ∷ ls) = stopOr s n (takeLine r l) (run s (seenAfter r (takeLine r l)) (countAfter m (takeLine r l)) (n + 1) ls)
+unfoldable pub listedAfter : Bool → Step → Bool
+listedAfter x (Broken cause) = x
+listedAfter x (Next q) = x
+listedAfter x (Pattern y) = y
+
+-- the reader, over the lines that are left: r are the fields seen, m the patterns and n the lines passed, x says whether the host is listed
+unfoldable pub run : (host : List ℕ) → List ℕ → Seen → ℕ → Bool → ℕ → List (List ℕ) → Checked
+run host s r m x n [] = Checked.Read r m x
+run host s r m x n (l ∷ ls) =
+    stopOr s n (takeLine host x r l)
+    (run host s (seenAfter r (takeLine host x r l)) (countAfter m (takeLine host x r l)) (listedAfter x (takeLine host x r l)) (n + 1) ls)
 
 -- the kind of a field says which name it has
 abbrev isMxKind : Kind → Bool
@@ -119,7 +128,9 @@ named-as l name h = rw (lt-ltb (indexOf 58 l) (length l) (has-inside 58 l (go (h
 -- the first of two fields: the one seen before, where there is one
 unfoldable orMode : MaybeMode → MaybeMode → MaybeMode
 orMode HM.Nothing later = later
-orMode (HM.Is mode) later = HM.Is mode
+orMode HM.Enforce later = HM.Enforce
+orMode HM.Testing later = HM.Testing
+orMode HM.None later = HM.None
 
 unfoldable orAge : MaybeAge → MaybeAge → MaybeAge
 orAge HA.Nothing later = later
@@ -128,17 +139,34 @@ orAge (HA.Is age) later = HA.Is age
 mode-had : (x : MaybeMode) → holdsMode x ≡ true → (later : MaybeMode) → orMode x later ≡ x
 unfolding orMode holdsMode
 mode-had HM.Nothing h later = never cc
-mode-had (HM.Is mode) h later = refl
+mode-had HM.Enforce h later = refl
+mode-had HM.Testing h later = refl
+mode-had HM.None h later = refl
 
 mode-new : (x : MaybeMode) → holdsMode x ≡ false → (later : MaybeMode) → orMode x later ≡ later
 unfolding orMode holdsMode
 mode-new HM.Nothing h later = refl
-mode-new (HM.Is mode) h later = never cc
+mode-new HM.Enforce h later = never cc
+mode-new HM.Testing h later = never cc
+mode-new HM.None h later = never cc
 
 mode-alone : (x : MaybeMode) → orMode x HM.Nothing ≡ x
 unfolding orMode
 mode-alone HM.Nothing = refl
-mode-alone (HM.Is mode) = refl
+mode-alone HM.Enforce = refl
+mode-alone HM.Testing = refl
+mode-alone HM.None = refl
+
+pub none-held : holdsMode (heldMode none) ≡ false
+unfolding holdsMode heldMode
+none-held = refl
+
+-- a mode is held as one
+pub mode-held : (mode : Mode) → holdsMode (heldMode (some mode)) ≡ true
+unfolding holdsMode heldMode
+mode-held M.Enforce = refl
+mode-held M.Testing = refl
+mode-held M.None = refl
 
 age-had : (x : MaybeAge) → holdsAge x ≡ true → (later : MaybeAge) → orAge x later ≡ x
 unfolding orAge holdsAge
@@ -175,20 +203,20 @@ unfolding any firstNamed modeIn ageIn heldMode heldAge
 absorb-none r = rw (or-false (r .version), mode-alone (r .mode), age-alone (r .age))
 
 -- one line: what it does to the fields, against its cause
-module _ (s : List ℕ) (earlier ls : List (List ℕ)) (r : Seen) (m : ℕ) (l : List ℕ) (a : Agrees r earlier) where
+module _ (host s : List ℕ) (earlier ls : List (List ℕ)) (r : Seen) (m : ℕ) (x : Bool) (l : List ℕ) (a : Agrees r earlier) where
   Goal : Type 0
-  Goal = run s r m (length earlier) (l ∷ ls) ≡ outcome (absorb r (l ∷ ls)) (m + length (patterns (l ∷ ls))) (firstFault s earlier (l ∷ ls))
+  Goal = run host s r m x (length earlier) (l ∷ ls) ≡ outcome (absorb r (l ∷ ls)) (m + length (patterns (l ∷ ls))) (x || someCovers host (patterns (l ∷ ls))) (firstFault s earlier (l ∷ ls))
 
   IH : Type 0
-  IH = (q : Seen) (k : ℕ) → Agrees q (l ∷ earlier) → run s q k (suc (length earlier)) ls ≡ outcome (absorb q ls) (k + length (patterns ls)) (firstFault s (l ∷ earlier) ls)
+  IH = (q : Seen) (k : ℕ) (y : Bool) → Agrees q (l ∷ earlier) → run host s q k y (suc (length earlier)) ls ≡ outcome (absorb q ls) (k + length (patterns ls)) (y || someCovers host (patterns ls)) (firstFault s (l ∷ earlier) ls)
 
-  -- a sound line that leaves the fields q and the count k
-  onward : (q : Seen) (k : ℕ) → IH → Agrees q (l ∷ earlier) → ((x : Checked) → stopOr s (length earlier) (takeLine r l) x ≡ x) → seenAfter r (takeLine r l) ≡ q → countAfter m (takeLine r l) ≡ k → causeAfter earlier l ≡ none → absorb r (l ∷ ls) ≡ absorb q ls → m + length (patterns (l ∷ ls)) ≡ k + length (patterns ls) → Goal
+  -- a sound line that leaves the fields q, the count k and the flag y
+  onward : (q : Seen) (k : ℕ) (y : Bool) → IH → Agrees q (l ∷ earlier) → ((z : Checked) → stopOr s (length earlier) (takeLine host x r l) z ≡ z) → seenAfter r (takeLine host x r l) ≡ q → countAfter m (takeLine host x r l) ≡ k → listedAfter x (takeLine host x r l) ≡ y → causeAfter earlier l ≡ none → absorb r (l ∷ ls) ≡ absorb q ls → m + length (patterns (l ∷ ls)) ≡ k + length (patterns ls) → (x || someCovers host (patterns (l ∷ ls))) ≡ (y || someCovers host (patterns ls)) → Goal
   unfolding Goal IH run firstFault orLater
-  onward q k ih b st se co ca ab pa = st _ ∙ rw (se, co, add-one (length earlier), ca, ab, pa) (ih q k b)
+  onward q k y ih b st se co li ca ab pa cv = st _ ∙ rw (se, co, li, add-one (length earlier), ca, ab, pa, cv) (ih q k y b)
 
   -- a line with a cause
-  broken : (c : Cause) → takeLine r l ≡ Broken c → causeAfter earlier l ≡ some c → Goal
+  broken : (c : Cause) → takeLine host x r l ≡ Broken c → causeAfter earlier l ≡ some c → Goal
   unfolding Goal run firstFault orLater stopOr outcome
   broken c tk ca = rw (tk, ca)
 
@@ -205,7 +233,7 @@ module _ (s : List ℕ) (earlier ls : List (List ℕ)) (r : Seen) (m : ℕ) (l :
     nx : isNamed (text "mx") l ≡ isMxKind k
     nx = named-as l (text "mx") il ∙ kinds (nameOf l) .mx ∙ ap isMxKind e
 
-    tk : takeLine r l ≡ takeField r k (valueOf l)
+    tk : takeLine host x r l ≡ takeField host x r k (valueOf l)
     unfolding takeLine
     tk = rw (il, e)
 
@@ -221,55 +249,59 @@ module _ (s : List ℕ) (earlier ls : List (List ℕ)) (r : Seen) (m : ℕ) (l :
     unfolding patterns
     pa = rw nx
 
+    cv : (x || someCovers host (patterns (l ∷ ls))) ≡ (x || someCovers host (cond (isMxKind k) (valueOf l ∷ patterns ls) (patterns ls)))
+    unfolding patterns
+    cv = rw nx
+
     ag : (q : Seen) → q .version ≡ (isVersionKind k || r .version) → holdsMode (q .mode) ≡ (isModeKind k || holdsMode (r .mode)) → holdsAge (q .age) ≡ (isAgeKind k || holdsAge (r .age)) → Agrees q (l ∷ earlier)
     unfolding any
     ag q x y z = record { version = x ∙ rw (nv, a .version); mode = y ∙ rw (nm, a .mode); age = z ∙ rw (na, a .age) }
 
   module _ (il : isLine l ≡ true) (ih : IH) where
     other : kindOf (nameOf l) ≡ K.Other → Goal
-    unfolding takeField stopOr seenAfter countAfter
+    unfolding takeField stopOr seenAfter countAfter listedAfter
     other e =
-        let st : takeLine r l ≡ Next r = tk il K.Other e in
-        onward r m ih (ag il K.Other e r refl refl refl) (λ x. rw st) (rw st) (rw st) (ca il K.Other e) (ab il K.Other e) (pa il K.Other e)
+        let st : takeLine host x r l ≡ Next r = tk il K.Other e in
+        onward r m x ih (ag il K.Other e r refl refl refl) (λ z. rw st) (rw st) (rw st) (rw st) (ca il K.Other e) (ab il K.Other e) (pa il K.Other e) (cv il K.Other e)
 
     mx : (t : Bool) → isPattern (valueOf l) ≡ t → kindOf (nameOf l) ≡ K.Mx → Goal
-    unfolding takeField takeMx stopOr seenAfter countAfter
-    mx true y e =
-        let st : takeLine r l ≡ Pattern = tk il K.Mx e ∙ rw y in
-        onward r (m + 1) ih (ag il K.Mx e r refl refl refl) (λ x. rw st) (rw st) (rw st) (ca il K.Mx e ∙ rw y) (ab il K.Mx e) (pa il K.Mx e ∙ omega arith)
-    mx false y e = broken Cause.Mx (tk il K.Mx e ∙ rw y) (ca il K.Mx e ∙ rw y)
+    unfolding takeField takeMx stopOr seenAfter countAfter listedAfter any
+    mx true p e =
+        let st : takeLine host x r l ≡ Pattern (x || coversName (valueOf l) host) = tk il K.Mx e ∙ rw p in
+        onward r (m + 1) (x || coversName (valueOf l) host) ih (ag il K.Mx e r refl refl refl) (λ z. rw st) (rw st) (rw st) (rw st) (ca il K.Mx e ∙ rw p) (ab il K.Mx e) (pa il K.Mx e ∙ omega arith) (cv il K.Mx e ∙ sym (or-assoc x (coversName (valueOf l) host) (someCovers host (patterns ls))))
+    mx false p e = broken Cause.Mx (tk il K.Mx e ∙ rw p) (ca il K.Mx e ∙ rw p)
 
     version : (h t : Bool) → r .version ≡ h → isVersion (valueOf l) ≡ t → kindOf (nameOf l) ≡ K.Version → Goal
-    unfolding takeField takeVersion stopOr seenAfter countAfter
+    unfolding takeField takeVersion stopOr seenAfter countAfter listedAfter
     version true t w y e =
-        let st : takeLine r l ≡ Next r = tk il K.Version e ∙ rw w in
-        onward r m ih (ag il K.Version e r w refl refl) (λ x. rw st) (rw st) (rw st) (ca il K.Version e ∙ rw w) (ab il K.Version e ∙ rw w) (pa il K.Version e)
+        let st : takeLine host x r l ≡ Next r = tk il K.Version e ∙ rw w in
+        onward r m x ih (ag il K.Version e r w refl refl) (λ z. rw st) (rw st) (rw st) (rw st) (ca il K.Version e ∙ rw w) (ab il K.Version e ∙ rw w) (pa il K.Version e) (cv il K.Version e)
     version false true w y e =
         let q : Seen = record { version = true; mode = r .mode; age = r .age } in
-        let st : takeLine r l ≡ Next q = tk il K.Version e ∙ rw (w, y) in
-        onward q m ih (ag il K.Version e q refl refl refl) (λ x. rw st) (rw st) (rw st) (ca il K.Version e ∙ rw (w, y)) (ab il K.Version e ∙ rw w) (pa il K.Version e)
+        let st : takeLine host x r l ≡ Next q = tk il K.Version e ∙ rw (w, y) in
+        onward q m x ih (ag il K.Version e q refl refl refl) (λ z. rw st) (rw st) (rw st) (rw st) (ca il K.Version e ∙ rw (w, y)) (ab il K.Version e ∙ rw w) (pa il K.Version e) (cv il K.Version e)
     version false false w y e = broken Cause.Version (tk il K.Version e ∙ rw (w, y)) (ca il K.Version e ∙ rw (w, y))
 
     mode : (h : Bool) (o : Option Mode) → holdsMode (r .mode) ≡ h → modeOf (valueOf l) ≡ o → kindOf (nameOf l) ≡ K.Mode → Goal
-    unfolding takeField takeMode newMode stopOr seenAfter countAfter isThere modeIn heldMode holdsMode orMode
+    unfolding takeField takeMode newMode stopOr seenAfter countAfter listedAfter isThere modeIn
     mode true o w y e =
-        let st : takeLine r l ≡ Next r = tk il K.Mode e ∙ rw w in
-        onward r m ih (ag il K.Mode e r refl w refl) (λ x. rw st) (rw st) (rw st) (ca il K.Mode e ∙ rw w) (ab il K.Mode e ∙ simp (mode-had (r .mode) w)) (pa il K.Mode e)
-    mode false (some x) w y e =
-        let q : Seen = record { version = r .version; mode = HM.Is x; age = r .age } in
-        let st : takeLine r l ≡ Next q = tk il K.Mode e ∙ rw (w, y) in
-        onward q m ih (ag il K.Mode e q refl refl refl) (λ x. rw st) (rw st) (rw st) (ca il K.Mode e ∙ rw (w, y)) (ab il K.Mode e ∙ rw (mode-new (r .mode) w (heldMode (modeOf (valueOf l))), y)) (pa il K.Mode e)
-    mode false none w y e = broken Cause.Mode (tk il K.Mode e ∙ rw (w, y)) (ca il K.Mode e ∙ rw (w, y))
+        let st : takeLine host x r l ≡ Next r = tk il K.Mode e ∙ rw w in
+        onward r m x ih (ag il K.Mode e r refl w refl) (λ z. rw st) (rw st) (rw st) (rw st) (ca il K.Mode e ∙ rw w) (ab il K.Mode e ∙ simp (mode-had (r .mode) w)) (pa il K.Mode e) (cv il K.Mode e)
+    mode false (some o) w y e =
+        let q : Seen = record { version = r .version; mode = heldMode (some o); age = r .age } in
+        let st : takeLine host x r l ≡ Next q = tk il K.Mode e ∙ rw (w, y, mode-held o) in
+        onward q m x ih (ag il K.Mode e q refl (mode-held o) refl) (λ z. rw st) (rw st) (rw st) (rw st) (ca il K.Mode e ∙ rw (w, y)) (ab il K.Mode e ∙ rw (mode-new (r .mode) w (heldMode (modeOf (valueOf l))), y, mode-had (heldMode (some o)) (mode-held o) (heldMode (firstMode ls)))) (pa il K.Mode e) (cv il K.Mode e)
+    mode false none w y e = broken Cause.Mode (tk il K.Mode e ∙ rw (w, y, none-held)) (ca il K.Mode e ∙ rw (w, y))
 
     age : (h : Bool) (o : Option ℕ) → holdsAge (r .age) ≡ h → ageOf (valueOf l) ≡ o → kindOf (nameOf l) ≡ K.MaxAge → Goal
-    unfolding takeField takeAge newAge stopOr seenAfter countAfter isThere ageIn heldAge holdsAge orAge
+    unfolding takeField takeAge newAge stopOr seenAfter countAfter listedAfter isThere ageIn heldAge holdsAge orAge
     age true o w y e =
-        let st : takeLine r l ≡ Next r = tk il K.MaxAge e ∙ rw w in
-        onward r m ih (ag il K.MaxAge e r refl refl w) (λ x. rw st) (rw st) (rw st) (ca il K.MaxAge e ∙ rw w) (ab il K.MaxAge e ∙ simp (age-had (r .age) w)) (pa il K.MaxAge e)
+        let st : takeLine host x r l ≡ Next r = tk il K.MaxAge e ∙ rw w in
+        onward r m x ih (ag il K.MaxAge e r refl refl w) (λ z. rw st) (rw st) (rw st) (rw st) (ca il K.MaxAge e ∙ rw w) (ab il K.MaxAge e ∙ simp (age-had (r .age) w)) (pa il K.MaxAge e) (cv il K.MaxAge e)
     age false (some n) w y e =
         let q : Seen = record { version = r .version; mode = r .mode; age = HA.Is n } in
-        let st : takeLine r l ≡ Next q = tk il K.MaxAge e ∙ rw (w, y) in
-        onward q m ih (ag il K.MaxAge e q refl refl refl) (λ x. rw st) (rw st) (rw st) (ca il K.MaxAge e ∙ rw (w, y)) (ab il K.MaxAge e ∙ rw (age-new (r .age) w (heldAge (ageOf (valueOf l))), y)) (pa il K.MaxAge e)
+        let st : takeLine host x r l ≡ Next q = tk il K.MaxAge e ∙ rw (w, y) in
+        onward q m x ih (ag il K.MaxAge e q refl refl refl) (λ z. rw st) (rw st) (rw st) (rw st) (ca il K.MaxAge e ∙ rw (w, y)) (ab il K.MaxAge e ∙ rw (age-new (r .age) w (heldAge (ageOf (valueOf l))), y)) (pa il K.MaxAge e) (cv il K.MaxAge e)
     age false none w y e = broken Cause.MaxAge (tk il K.MaxAge e ∙ rw (w, y)) (ca il K.MaxAge e ∙ rw (w, y))
 
     each : (k : Kind) → kindOf (nameOf l) ≡ k → Goal
@@ -284,85 +316,86 @@ module _ (s : List ℕ) (earlier ls : List (List ℕ)) (r : Seen) (m : ℕ) (l :
   line true il ih = each il ih (kindOf (nameOf l)) refl
   line false il ih = broken Cause.Form (rw il) (rw il)
 
-same : (s : List ℕ) (earlier ls : List (List ℕ)) (r : Seen) (m : ℕ) → Agrees r earlier → run s r m (length earlier) ls ≡ outcome (absorb r ls) (m + length (patterns ls)) (firstFault s earlier ls)
-unfolding run firstFault outcome patterns Goal IH
-same s earlier [] r m a = rw (absorb-none r, add-zero m)
-same s earlier (l ∷ ls) r m a = line s earlier ls r m l a (isLine l) refl (λ q k b. same s (l ∷ earlier) ls q k b)
+same : (host s : List ℕ) (earlier ls : List (List ℕ)) (r : Seen) (m : ℕ) (x : Bool) → Agrees r earlier → run host s r m x (length earlier) ls ≡ outcome (absorb r ls) (m + length (patterns ls)) (x || someCovers host (patterns ls)) (firstFault s earlier ls)
+unfolding run firstFault outcome patterns any Goal IH
+same host s earlier [] r m x a = rw (absorb-none r, add-zero m, or-false x)
+same host s earlier (l ∷ ls) r m x a = line host s earlier ls r m x l a (isLine l) refl (λ q k y b. same host s (l ∷ earlier) ls q k y b)
 
 -- `check`: the start of its loop, its turns and its ends
-pub check-start : (s : List ℕ) → (length s ≡ 0 → ⊥) → checked s ≡ run s (record { version = false; mode = HM.Nothing; age = HA.Nothing }) 0 0 (lines s)
+pub check-start : (host : List ℕ) (x : Bool) (s : List ℕ) → (length s ≡ 0 → ⊥) → checked host x s ≡ run host s (record { version = false; mode = HM.Nothing; age = HA.Nothing }) 0 x 0 (lines s)
 unfolding checked bodyFault seenIn any orMode orAge holdsMode holdsAge
-check-start s h =
+check-start host x s h =
     let r : Seen = record { version = false; mode = HM.Nothing; age = HA.Nothing } in
     let z : 0 + length (patterns (lines s)) ≡ length (patterns (lines s)) = omega arith in
     rw (ne-eqb (length s) 0 h, ← z)
-    (sym (same s [] (lines s) r 0 (record { version = refl; mode = refl; age = refl })))
+    (sym (same host s [] (lines s) r 0 x (record { version = refl; mode = refl; age = refl })))
 
-pub check-empty : (s : List ℕ) (x : Checked) → length s ≡ 0 → x ≡ Checked.Refused (record { cause = Cause.Form; line = 0 + 1; offset = 0 }) → x ≡ checked s
+pub check-empty : (host : List ℕ) (x : Bool) (s : List ℕ) (c : Checked) → length s ≡ 0 → c ≡ Checked.Refused (record { cause = Cause.Form; line = 0 + 1; offset = 0 }) → c ≡ checked host x s
 unfolding checked bodyFault faultAt outcome lineStart
-check-empty s x h e = rw (eq-eqb (length s) 0 h) e
+check-empty host x s c h e = rw (eq-eqb (length s) 0 h) e
 
 turned-next : (st : Step) (next : ℕ) (q : Seen) (k : ℕ) → T.Next q k ≡ placed st next → (st ≡ Next q) × (k ≡ next)
 unfolding placed
 turned-next (Next r) next q k h = (cc, cc)
-turned-next Pattern next q k h = never cc
+turned-next (Pattern y) next q k h = never cc
 turned-next (Broken c) next q k h = never cc
 
-turned-pattern : (st : Step) (next : ℕ) (k : ℕ) → T.Pattern k ≡ placed st next → (st ≡ Pattern) × (k ≡ next)
+turned-pattern : (st : Step) (next : ℕ) (y : Bool) (k : ℕ) → T.Pattern y k ≡ placed st next → (st ≡ Pattern y) × (k ≡ next)
 unfolding placed
-turned-pattern (Next r) next k h = never cc
-turned-pattern Pattern next k h = (refl, cc)
-turned-pattern (Broken c) next k h = never cc
+turned-pattern (Next r) next y k h = never cc
+turned-pattern (Pattern z) next y k h = (cc, cc)
+turned-pattern (Broken c) next y k h = never cc
 
 turned-broken : (st : Step) (next : ℕ) (c : Cause) → T.Broken c ≡ placed st next → st ≡ Broken c
 unfolding placed
 turned-broken (Next r) next c h = never cc
-turned-broken Pattern next c h = never cc
+turned-broken (Pattern y) next c h = never cc
 turned-broken (Broken d) next c h = cc
 
 -- a turn: tr is what `take_line` gave at `at`
-module _ (s : List ℕ) (r : Seen) (at : ℕ) (tr : Turn) (g : tr ≡ turnAt r s at) where
-  next-step : (q : Seen) (k : ℕ) → tr ≡ T.Next q k → (takeLine r (lineAt s at) ≡ Next q) × (k ≡ lineEnd s at + 1)
+module _ (host : List ℕ) (x : Bool) (s : List ℕ) (r : Seen) (at : ℕ) (tr : Turn) (g : tr ≡ turnAt host x r s at) where
+  next-step : (q : Seen) (k : ℕ) → tr ≡ T.Next q k → (takeLine host x r (lineAt s at) ≡ Next q) × (k ≡ lineEnd s at + 1)
   unfolding turnAt
-  next-step q k e = turned-next (takeLine r (lineAt s at)) (lineEnd s at + 1) q k (sym e ∙ g)
+  next-step q k e = turned-next (takeLine host x r (lineAt s at)) (lineEnd s at + 1) q k (sym e ∙ g)
 
-  pattern-step : (k : ℕ) → tr ≡ T.Pattern k → (takeLine r (lineAt s at) ≡ Pattern) × (k ≡ lineEnd s at + 1)
+  pattern-step : (y : Bool) (k : ℕ) → tr ≡ T.Pattern y k → (takeLine host x r (lineAt s at) ≡ Pattern y) × (k ≡ lineEnd s at + 1)
   unfolding turnAt
-  pattern-step k e = turned-pattern (takeLine r (lineAt s at)) (lineEnd s at + 1) k (sym e ∙ g)
+  pattern-step y k e = turned-pattern (takeLine host x r (lineAt s at)) (lineEnd s at + 1) y k (sym e ∙ g)
 
-  broken-step : (c : Cause) → tr ≡ T.Broken c → takeLine r (lineAt s at) ≡ Broken c
+  broken-step : (c : Cause) → tr ≡ T.Broken c → takeLine host x r (lineAt s at) ≡ Broken c
   unfolding turnAt
-  broken-step c e = turned-broken (takeLine r (lineAt s at)) (lineEnd s at + 1) c (sym e ∙ g)
+  broken-step c e = turned-broken (takeLine host x r (lineAt s at)) (lineEnd s at + 1) c (sym e ∙ g)
 
   pub next-place : (q : Seen) (k : ℕ) → tr ≡ T.Next q k → k ≡ lineEnd s at + 1
   next-place q k e = next-step q k e .1
 
-  pub pattern-place : (k : ℕ) → tr ≡ T.Pattern k → k ≡ lineEnd s at + 1
-  pattern-place k e = pattern-step k e .1
+  pub pattern-place : (y : Bool) (k : ℕ) → tr ≡ T.Pattern y k → k ≡ lineEnd s at + 1
+  pattern-place y k e = pattern-step y k e .1
 
   -- no more lines than bytes were passed
   pub next-counts : (n : ℕ) → n ≤ at → (q : Seen) (k : ℕ) → tr ≡ T.Next q k → n + 1 ≤ k
   next-counts n h q k e = omega (arith, next-place q k e, next-after s at)
 
-  pub pattern-counts : (n : ℕ) → n ≤ at → (k : ℕ) → tr ≡ T.Pattern k → n + 1 ≤ k
-  pattern-counts n h k e = omega (arith, pattern-place k e, next-after s at)
+  pub pattern-counts : (n : ℕ) → n ≤ at → (y : Bool) (k : ℕ) → tr ≡ T.Pattern y k → n + 1 ≤ k
+  pattern-counts n h y k e = omega (arith, pattern-place y k e, next-after s at)
 
-  module _ (m n : ℕ) (inv : checked s ≡ run s r m n (lines (drop at s))) (h : at < length s) where
-    turn : checked s ≡ stopOr s n (takeLine r (lineAt s at)) (run s (seenAfter r (takeLine r (lineAt s at))) (countAfter m (takeLine r (lineAt s at))) (n + 1) (lines (drop (lineEnd s at + 1) s)))
+  -- w is whether the host was listed at the start
+  module _ (w : Bool) (m n : ℕ) (inv : checked host w s ≡ run host s r m x n (lines (drop at s))) (h : at < length s) where
+    turn : checked host w s ≡ stopOr s n (takeLine host x r (lineAt s at)) (run host s (seenAfter r (takeLine host x r (lineAt s at))) (countAfter m (takeLine host x r (lineAt s at))) (listedAfter x (takeLine host x r (lineAt s at))) (n + 1) (lines (drop (lineEnd s at + 1) s)))
     unfolding run
     turn = inv ∙ rw (lines-at s at h)
 
-    pub check-next : (q : Seen) (k : ℕ) → tr ≡ T.Next q k → checked s ≡ run s q m (n + 1) (lines (drop k s))
-    unfolding stopOr seenAfter countAfter
+    pub check-next : (q : Seen) (k : ℕ) → tr ≡ T.Next q k → checked host w s ≡ run host s q m x (n + 1) (lines (drop k s))
+    unfolding stopOr seenAfter countAfter listedAfter
     check-next q k e = turn ∙ rw (next-step q k e .0, next-step q k e .1)
 
-    pub check-pattern : (k : ℕ) → tr ≡ T.Pattern k → checked s ≡ run s r (m + 1) (n + 1) (lines (drop k s))
-    unfolding stopOr seenAfter countAfter
-    check-pattern k e = turn ∙ rw (pattern-step k e .0, pattern-step k e .1)
+    pub check-pattern : (y : Bool) (k : ℕ) → tr ≡ T.Pattern y k → checked host w s ≡ run host s r (m + 1) y (n + 1) (lines (drop k s))
+    unfolding stopOr seenAfter countAfter listedAfter
+    check-pattern y k e = turn ∙ rw (pattern-step y k e .0, pattern-step y k e .1)
 
-    pub check-broken : (c : Cause) → tr ≡ T.Broken c → at ≡ lineStart s n → (x : Checked) → x ≡ Checked.Refused (record { cause = c; line = n + 1; offset = at }) → x ≡ checked s
+    pub check-broken : (c : Cause) → tr ≡ T.Broken c → at ≡ lineStart s n → (d : Checked) → d ≡ Checked.Refused (record { cause = c; line = n + 1; offset = at }) → d ≡ checked host w s
     unfolding stopOr faultAt
-    check-broken c e z x y = y ∙ rw z (sym (turn ∙ rw (broken-step c e)))
+    check-broken c e z d y = y ∙ rw z (sym (turn ∙ rw (broken-step c e)))
 
 -- where the next line begins
 module _ (s : List ℕ) (at k : ℕ) (e : k ≡ lineEnd s at + 1) where
@@ -375,9 +408,9 @@ module _ (s : List ℕ) (at k : ℕ) (e : k ≡ lineEnd s at + 1) where
   pub next-less : at < length s → length s + 1 - k < length s + 1 - at
   next-less h = omega (arith, next-after s at, next-within s at h)
 
-pub check-end : (s : List ℕ) (r : Seen) (m n at : ℕ) → checked s ≡ run s r m n (lines (drop at s)) → length s ≤ at → Checked.Read r m ≡ checked s
+pub check-end : (host : List ℕ) (w : Bool) (s : List ℕ) (r : Seen) (m : ℕ) (x : Bool) (n at : ℕ) → checked host w s ≡ run host s r m x n (lines (drop at s)) → length s ≤ at → Checked.Read r m x ≡ checked host w s
 unfolding run lines
-check-end s r m n at inv h = sym (inv ∙ rw (drop-of-length-le s h))
+check-end host w s r m x n at inv h = sym (inv ∙ rw (drop-of-length-le s h))
 
 pub start-first : (s : List ℕ) → 0 ≡ lineStart s 0
 unfolding lineStart

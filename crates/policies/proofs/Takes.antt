@@ -19,12 +19,12 @@ use Rattle.lists.proofs.Span.{span-le}
 use Rattle.lists.proofs.All.{all-drop, all-take}
 use Rattle.lists.proofs.Bools.{never}
 use Rattle.names.specs.Name.{isPattern}
+use Rattle.names.specs.Scan.{coversName}
 use Rattle.fields.specs.Name.{hasName}
 use Rattle.fields.specs.Blank.{blank, unblanked}
 use Rattle.fields.proofs.Blank.{unblanked-le}
 use Rattle.policies.specs.declared.Cause.{Cause}
 use Rattle.policies.specs.declared.Kind.{Kind}
-use Rattle.policies.specs.declared.Mode.{Mode}
 use Rattle.policies.specs.declared.MaybeMode.{MaybeMode}
 use Rattle.policies.specs.declared.MaybeAge.{MaybeAge}
 use Rattle.policies.specs.declared.Seen.{Seen}
@@ -49,26 +49,19 @@ module _ (r : Seen) (v : List ℕ) where
     unfolding takeVersion isVersion
     version-good e = cc
 
-  pub mode-had : (m : Mode) → r .mode ≡ MaybeMode.Is m → Step.Next r ≡ takeMode r v
-  unfolding takeMode holdsMode
-  mode-had m h = rw h
+  module _ (h : Bool) (held : h ≡ holdsMode (r .mode)) where
+    pub mode-had : h ≡ true → Step.Next r ≡ takeMode r v
+    unfolding takeMode
+    mode-had e = cc
 
-  module _ (h : r .mode ≡ MaybeMode.Nothing) (m : MaybeMode) (g : m ≡ heldMode (modeOf v)) where
-    pub mode-bad : m ≡ MaybeMode.Nothing → Step.Broken Cause.Mode ≡ takeMode r v
-    unfolding takeMode holdsMode heldMode newMode
-    mode-bad e = let k : holdsMode (r .mode) ≡ false = rw h in rw k (go (modeOf v) (sym g ∙ e))
-      where
-        go : (o : Option Mode) → heldMode o ≡ MaybeMode.Nothing → Step.Broken Cause.Mode ≡ newMode r o
-        go none k = refl
-        go (some x) k = never cc
+    module _ (f : h ≡ false) (m : MaybeMode) (g : m ≡ heldMode (modeOf v)) (b : Bool) (good : b ≡ holdsMode m) where
+      pub mode-bad : b ≡ false → Step.Broken Cause.Mode ≡ takeMode r v
+      unfolding takeMode newMode
+      mode-bad e = cc
 
-    pub mode-good : (x : Mode) → m ≡ MaybeMode.Is x → Step.Next (record { version = r .version; mode = m; age = r .age }) ≡ takeMode r v
-    unfolding takeMode holdsMode heldMode newMode
-    mode-good x e = let k : holdsMode (r .mode) ≡ false = rw h in rw k (go (modeOf v) g)
-      where
-        go : (o : Option Mode) → m ≡ heldMode o → Step.Next (record { version = r .version; mode = m; age = r .age }) ≡ newMode r o
-        go none k = never cc
-        go (some y) k = rw k
+      pub mode-good : b ≡ true → Step.Next (record { version = r .version; mode = m; age = r .age }) ≡ takeMode r v
+      unfolding takeMode newMode
+      mode-good e = cc
 
   pub age-had : (n : ℕ) → r .age ≡ MaybeAge.Is n → Step.Next r ≡ takeAge r v
   unfolding takeAge holdsAge
@@ -91,44 +84,48 @@ module _ (r : Seen) (v : List ℕ) where
         go none k = never cc
         go (some m) k = rw k
 
-module _ (v : List ℕ) (b : Bool) (g : b ≡ isPattern v) where
-  pub mx-bad : b ≡ false → Step.Broken Cause.Mx ≡ takeMx v
+module _ (h : List ℕ) (x : Bool) (v : List ℕ) (b : Bool) (g : b ≡ isPattern v) where
+  pub mx-bad : b ≡ false → Step.Broken Cause.Mx ≡ takeMx h x v
   unfolding takeMx
   mx-bad e = cc
 
-  pub mx-good : b ≡ true → Step.Pattern ≡ takeMx v
+  pub mx-listed : b ≡ true → x ≡ true → Step.Pattern true ≡ takeMx h x v
   unfolding takeMx
-  mx-good e = cc
+  mx-listed e f = cc
+
+  pub mx-covers : b ≡ true → x ≡ false → (y : Bool) → y ≡ coversName v h → Step.Pattern y ≡ takeMx h x v
+  unfolding takeMx
+  mx-covers e f y k = cc
 
 pub ruleset version-laws = (version-had, version-bad, version-good, not-true, not-false, needs)
 
-pub ruleset mode-laws = (mode-had, mode-bad, mode-good, needs)
+pub ruleset mode-laws = (mode-had, mode-bad, mode-good, not-true, not-false, needs)
 
 pub ruleset age-laws = (age-had, age-bad, age-good, needs)
 
-pub ruleset mx-laws = (mx-bad, mx-good, not-true, not-false, needs)
+pub ruleset mx-laws = (mx-bad, mx-listed, mx-covers, not-true, not-false, needs)
 
 -- `take_field`: s is what the call for the kind k gave
-module _ (r : Seen) (v : List ℕ) (k : Kind) (s : Step) where
-  pub field-version : k ≡ Kind.Version → s ≡ takeVersion r v → s ≡ takeField r k v
+module _ (h : List ℕ) (x : Bool) (r : Seen) (v : List ℕ) (k : Kind) (s : Step) where
+  pub field-version : k ≡ Kind.Version → s ≡ takeVersion r v → s ≡ takeField h x r k v
   unfolding takeField
-  field-version e h = rw e h
+  field-version e g = rw e g
 
-  pub field-mode : k ≡ Kind.Mode → s ≡ takeMode r v → s ≡ takeField r k v
+  pub field-mode : k ≡ Kind.Mode → s ≡ takeMode r v → s ≡ takeField h x r k v
   unfolding takeField
-  field-mode e h = rw e h
+  field-mode e g = rw e g
 
-  pub field-age : k ≡ Kind.MaxAge → s ≡ takeAge r v → s ≡ takeField r k v
+  pub field-age : k ≡ Kind.MaxAge → s ≡ takeAge r v → s ≡ takeField h x r k v
   unfolding takeField
-  field-age e h = rw e h
+  field-age e g = rw e g
 
-  pub field-mx : k ≡ Kind.Mx → s ≡ takeMx v → s ≡ takeField r k v
+  pub field-mx : k ≡ Kind.Mx → s ≡ takeMx h x v → s ≡ takeField h x r k v
   unfolding takeField
-  field-mx e h = rw e h
+  field-mx e g = rw e g
 
-pub field-other : (r : Seen) (v : List ℕ) (k : Kind) → k ≡ Kind.Other → Step.Next r ≡ takeField r k v
+pub field-other : (h : List ℕ) (x : Bool) (r : Seen) (v : List ℕ) (k : Kind) → k ≡ Kind.Other → Step.Next r ≡ takeField h x r k v
 unfolding takeField
-field-other r v k e = rw e
+field-other h x r v k e = rw e
 
 pub ruleset field-laws = (field-version, field-mode, field-age, field-mx, field-other, needs)
 
@@ -165,18 +162,18 @@ printable-value l v e b at g x y =
     rw x (printable-text (valueOf l) (all-take printable (unblanked f) f (all-drop printable (spanOf blank d) d k)))
 
 -- `take_value`: v is the line's value, b whether it is a value
-module _ (r : Seen) (l : List ℕ) (v : List ℕ) (x : v ≡ valueOf l) (b : Bool) (g : b ≡ isValue v) where
-  pub line-bad : b ≡ false → Step.Broken Cause.Form ≡ takeLine r l
+module _ (h : List ℕ) (x : Bool) (r : Seen) (l : List ℕ) (v : List ℕ) (y : v ≡ valueOf l) (b : Bool) (g : b ≡ isValue v) where
+  pub line-bad : b ≡ false → Step.Broken Cause.Form ≡ takeLine h x r l
   unfolding takeLine isLine
-  line-bad h =
+  line-bad e =
       let k : isValue (valueOf l) ≡ false = cc in
       rw (k, and-false)
 
-  pub line-good : (e : ℕ) → hasName 58 l ≡ true → e ≡ indexOf 58 l → b ≡ true → (k : Kind) → k ≡ kindOf (take (e - 0) l) → (s : Step) → s ≡ takeField r k v → s ≡ takeLine r l
+  pub line-good : (e : ℕ) → hasName 58 l ≡ true → e ≡ indexOf 58 l → b ≡ true → (k : Kind) → k ≡ kindOf (take (e - 0) l) → (s : Step) → s ≡ takeField h x r k v → s ≡ takeLine h x r l
   unfolding takeLine isLine nameOf
-  line-good e has at h k c s y =
+  line-good e has at t k c s f =
       let i : isValue (valueOf l) ≡ true = cc in
       let z : e - 0 ≡ e = omega arith in
-      rw (i, has, sym at) (y ∙ rw (c, x, z))
+      rw (i, has, sym at) (f ∙ rw (c, y, z))
 
 pub ruleset line-laws = (printable-value, line-bad, line-good, not-true, not-false, needs)

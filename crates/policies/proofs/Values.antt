@@ -19,7 +19,7 @@ use Rattle.policies.specs.declared.Mode.{Mode}
 use Rattle.policies.specs.declared.MaybeMode.{MaybeMode}
 use Rattle.policies.specs.declared.MaybeAge.{MaybeAge}
 use Rattle.policies.specs.Fields.{modeOf, isDigit, decimalAfter, ageOf}
-use Rattle.policies.specs.Reader.{kindOf, digitOf, heldMode, heldAge}
+use Rattle.policies.specs.Reader.{kindOf, digitOf, heldMode, heldAge, holdsMode, modeHeld}
 
 -- `kind_of`: a, b, c, d are what its calls gave
 module _ (n : List ℕ) (a : Bool) (p : a ≡ sameBytes n (text "mx")) where
@@ -50,17 +50,17 @@ pub ruleset kind-laws = (kind-mx, kind-version, kind-mode, kind-age, kind-other,
 
 -- `mode_of`: a, b, c are what its calls gave
 module _ (v : List ℕ) (a : Bool) (p : a ≡ sameBytes v (text "enforce")) where
-  pub mode-enforce : a ≡ true → MaybeMode.Is Mode.Enforce ≡ heldMode (modeOf v)
+  pub mode-enforce : a ≡ true → MaybeMode.Enforce ≡ heldMode (modeOf v)
   unfolding modeOf heldMode
   mode-enforce t = cc
 
   module _ (f : a ≡ false) (b : Bool) (q : b ≡ sameBytes v (text "testing")) where
-    pub mode-testing : b ≡ true → MaybeMode.Is Mode.Testing ≡ heldMode (modeOf v)
+    pub mode-testing : b ≡ true → MaybeMode.Testing ≡ heldMode (modeOf v)
     unfolding modeOf heldMode
     mode-testing t = cc
 
     module _ (g : b ≡ false) (c : Bool) (r : c ≡ sameBytes v (text "none")) where
-      pub mode-none : c ≡ true → MaybeMode.Is Mode.None ≡ heldMode (modeOf v)
+      pub mode-none : c ≡ true → MaybeMode.None ≡ heldMode (modeOf v)
       unfolding modeOf heldMode
       mode-none t = cc
 
@@ -69,6 +69,44 @@ module _ (v : List ℕ) (a : Bool) (p : a ≡ sameBytes v (text "enforce")) wher
       mode-other t = cc
 
 pub ruleset mode-laws = (mode-enforce, mode-testing, mode-none, mode-other, needs)
+
+-- `holds_mode` and `mode_in`: by each variant
+module _ (m : MaybeMode) where
+  pub holds-enforce : m ≡ MaybeMode.Enforce → true ≡ holdsMode m
+  unfolding holdsMode
+  holds-enforce e = rw e
+
+  pub holds-testing : m ≡ MaybeMode.Testing → true ≡ holdsMode m
+  unfolding holdsMode
+  holds-testing e = rw e
+
+  pub holds-none : m ≡ MaybeMode.None → true ≡ holdsMode m
+  unfolding holdsMode
+  holds-none e = rw e
+
+  pub holds-nothing : m ≡ MaybeMode.Nothing → false ≡ holdsMode m
+  unfolding holdsMode
+  holds-nothing e = rw e
+
+  pub in-enforce : m ≡ MaybeMode.Enforce → Mode.Enforce ≡ modeHeld m
+  unfolding modeHeld
+  in-enforce e = rw e
+
+  pub in-testing : m ≡ MaybeMode.Testing → Mode.Testing ≡ modeHeld m
+  unfolding modeHeld
+  in-testing e = rw e
+
+  pub in-none : m ≡ MaybeMode.None → Mode.None ≡ modeHeld m
+  unfolding modeHeld
+  in-none e = rw e
+
+  pub in-nothing : m ≡ MaybeMode.Nothing → Mode.None ≡ modeHeld m
+  unfolding modeHeld
+  in-nothing e = rw e
+
+pub ruleset holds-laws = (holds-enforce, holds-testing, holds-none, holds-nothing, needs)
+
+pub ruleset in-laws = (in-enforce, in-testing, in-none, in-nothing, needs)
 
 -- a digit is between `0` and `9`
 pub digit-between : (b : ℕ) → isDigit b ≡ true → (48 ≤ b) × (b ≤ 57)

@@ -1,6 +1,6 @@
 -- Document 01, "Policy body": what a body is read as, and the answer to it.
 use Prim.Native.Nat.{ℕ, _+_}
-use mathlib.Core.Bool.{Bool, true, false, cond}
+use mathlib.Core.Bool.{Bool, true, false, cond, _&&_}
 use mathlib.Core.List.{List, [], _∷_}
 use mathlib.Core.Option.{Option, none, some}
 use lib.Dec.{eqb, ltb}
@@ -8,6 +8,7 @@ use lib.ListN.{length}
 use Rattle.lists.specs.Bytes.{any}
 use Rattle.lists.specs.Text.{text}
 use Rattle.names.specs.Name.{matchesName}
+use Rattle.names.specs.Scan.{coversName}
 use Rattle.clock.specs.declared.Lifetime.{Lifetime}
 use Rattle.clock.specs.Clock.{lifetimeOf}
 use Rattle.policies.specs.declared.Mode.{Mode}
@@ -16,6 +17,7 @@ use Rattle.policies.specs.declared.Cause.{Cause}
 use Rattle.policies.specs.declared.Cause.the-variants as C
 use Rattle.policies.specs.declared.Fault.{Fault}
 use Rattle.policies.specs.declared.PolicyAnswer.{PolicyAnswer}
+use Rattle.policies.specs.declared.PolicyFor.{PolicyFor}
 use Rattle.policies.specs.Lines.{lines, lineStart}
 use Rattle.policies.specs.Fields.{anyNamed, firstNamed, patterns, modeOf, ageOf, causeAfter}
 
@@ -122,6 +124,14 @@ policyAnswer s = answerTo (readBody s)
 -- the patterns of a body, refused or not
 unfoldable pub patternsOf : List ℕ → List (List ℕ)
 patternsOf s = patterns (lines s)
+
+-- one of the patterns covers the host; for a host that is a name, it matches it
+abbrev pub someCovers : List ℕ → List (List ℕ) → Bool
+someCovers host ps = any (λ (p : List ℕ). coversName p host) ps
+
+-- the answer to a body, and whether it is accepted and one of its patterns covers the host
+unfoldable pub policyFor : (body host : List ℕ) → PolicyFor
+policyFor s host = record { answer = policyAnswer s; listed = someCovers host (patternsOf s) && eqb (policyAnswer s .number) 7 }
 
 -- one of the patterns matches the host
 abbrev pub someMatches : List ℕ → List (List ℕ) → Bool

@@ -1,7 +1,7 @@
 -- The reader's own steps, for the contracts of its private functions: not the paper's words, but the same answers (proofs/Same.antt and proofs/Answers.antt join them).
 use Prim.Native.Char.{code}
 use Prim.Native.Nat.{ℕ, _+_, _-_}
-use mathlib.Core.Bool.{Bool, true, false, cond, _&&_}
+use mathlib.Core.Bool.{Bool, true, false, cond, _&&_, _||_}
 use mathlib.Core.List.{List}
 use mathlib.Core.Option.{Option, none, some}
 use lib.Dec.{eqb, ltb}
@@ -30,10 +30,11 @@ use Rattle.policies.specs.declared.Turn.the-variants as T
 use Rattle.policies.specs.declared.Checked.{Checked}
 use Rattle.policies.specs.declared.Checked.the-variants.{Refused, Read}
 use Rattle.policies.specs.declared.PolicyAnswer.{PolicyAnswer}
+use Rattle.policies.specs.declared.PolicyFor.{PolicyFor}
 use Rattle.policies.specs.Texts.{utf8Two, utf8Three, utf8Four}
 use Rattle.policies.specs.Lines.{LF, CR, lines}
-use Rattle.policies.specs.Fields.{nameOf, valueOf, isLine, isNamed, anyNamed, patterns, isVersion, modeOf, isDigit, ageOf}
-use Rattle.policies.specs.Policy.{bodyFault, firstMode, firstAge, modeNumber, refused}
+use Rattle.policies.specs.Fields.{nameOf, valueOf, isLine, anyNamed, patterns, isVersion, modeOf, isDigit, ageOf}
+use Rattle.policies.specs.Policy.{bodyFault, firstMode, firstAge, modeNumber, refused, someCovers}
 
 -- how many bytes the sequence of 2 to 4 has that begins with these bytes, and 0 where none does
 unfoldable pub sizeOf : ℕ → ℕ → ℕ → ℕ → ℕ
@@ -63,7 +64,9 @@ digitOf b = cond (isDigit b) (b - code "0") 10
 -- a mode as the code holds it
 unfoldable pub heldMode : Option Mode → MaybeMode
 heldMode none = HM.Nothing
-heldMode (some mode) = HM.Is mode
+heldMode (some M.Enforce) = HM.Enforce
+heldMode (some M.Testing) = HM.Testing
+heldMode (some M.None) = HM.None
 
 -- a max_age as the code holds it
 unfoldable pub heldAge : Option ℕ → MaybeAge
@@ -72,8 +75,17 @@ heldAge (some age) = HA.Is age
 
 -- it holds a mode
 unfoldable pub holdsMode : MaybeMode → Bool
+holdsMode HM.Enforce = true
+holdsMode HM.Testing = true
+holdsMode HM.None = true
 holdsMode HM.Nothing = false
-holdsMode (HM.Is mode) = true
+
+-- the mode that it holds, and any where it holds none
+unfoldable pub modeHeld : MaybeMode → Mode
+modeHeld HM.Enforce = M.Enforce
+modeHeld HM.Testing = M.Testing
+modeHeld HM.None = M.None
+modeHeld HM.Nothing = M.None
 
 -- it holds a max_age
 unfoldable pub holdsAge : MaybeAge → Bool
@@ -85,13 +97,12 @@ unfoldable pub takeVersion : Seen → List ℕ → Step
 takeVersion r v = cond (r .version) (Next r) (cond (isVersion v) (Next (record { version = true; mode = r .mode; age = r .age })) (Broken C.Version))
 
 -- the same of a first mode
-unfoldable pub newMode : Seen → Option Mode → Step
-newMode r none = Broken C.Mode
-newMode r (some mode) = Next (record { version = r .version; mode = HM.Is mode; age = r .age })
+unfoldable pub newMode : Seen → MaybeMode → Step
+newMode r mode = cond (holdsMode mode) (Next (record { version = r .version; mode = mode; age = r .age })) (Broken C.Mode)
 
 -- the same of any mode
 unfoldable pub takeMode : Seen → List ℕ → Step
-takeMode r v = cond (holdsMode (r .mode)) (Next r) (newMode r (modeOf v))
+takeMode r v = cond (holdsMode (r .mode)) (Next r) (newMode r (heldMode (modeOf v)))
 
 -- the same of a first max_age
 unfoldable pub newAge : Seen → Option ℕ → Step
@@ -102,21 +113,21 @@ newAge r (some age) = Next (record { version = r .version; mode = r .mode; age =
 unfoldable pub takeAge : Seen → List ℕ → Step
 takeAge r v = cond (holdsAge (r .age)) (Next r) (newAge r (ageOf v))
 
--- the same of an mx
-unfoldable pub takeMx : List ℕ → Step
-takeMx v = cond (isPattern v) Pattern (Broken C.Mx)
+-- the same of an mx: the host h is listed where it was (x), or where the pattern covers it
+unfoldable pub takeMx : (h : List ℕ) (x : Bool) → List ℕ → Step
+takeMx h x v = cond (isPattern v) (Pattern (x || coversName v h)) (Broken C.Mx)
 
 -- the same of a field of each kind
-unfoldable pub takeField : Seen → Kind → List ℕ → Step
-takeField r K.Version v = takeVersion r v
-takeField r K.Mode v = takeMode r v
-takeField r K.MaxAge v = takeAge r v
-takeField r K.Mx v = takeMx v
-takeField r K.Other v = Next r
+unfoldable pub takeField : (h : List ℕ) (x : Bool) → Seen → Kind → List ℕ → Step
+takeField h x r K.Version v = takeVersion r v
+takeField h x r K.Mode v = takeMode r v
+takeField h x r K.MaxAge v = takeAge r v
+takeField h x r K.Mx v = takeMx h x v
+takeField h x r K.Other v = Next r
 
 -- the same of a line
-unfoldable pub takeLine : Seen → List ℕ → Step
-takeLine r l = cond (isLine l) (takeField r (kindOf (nameOf l)) (valueOf l)) (Broken C.Form)
+unfoldable pub takeLine : (h : List ℕ) (x : Bool) → Seen → List ℕ → Step
+takeLine h x r l = cond (isLine l) (takeField h x r (kindOf (nameOf l)) (valueOf l)) (Broken C.Form)
 
 -- where the LF stands that ends the line at `at`, or the body ends
 unfoldable pub lineEnd : List ℕ → ℕ → ℕ
@@ -129,25 +140,25 @@ lineAt s at = take (textEnd s at (lineEnd s at) - at) (drop at s)
 -- what a line does, with the place where the next one begins
 unfoldable pub placed : Step → ℕ → Turn
 placed (Next r) next = T.Next r next
-placed Pattern next = T.Pattern next
+placed (Pattern y) next = T.Pattern y next
 placed (Broken cause) next = T.Broken cause
 
 -- the same of the line that begins at `at`
-unfoldable pub turnAt : Seen → List ℕ → ℕ → Turn
-turnAt r s at = placed (takeLine r (lineAt s at)) (lineEnd s at + 1)
+unfoldable pub turnAt : (h : List ℕ) (x : Bool) → Seen → List ℕ → ℕ → Turn
+turnAt h x r s at = placed (takeLine h x r (lineAt s at)) (lineEnd s at + 1)
 
 -- the fields of the lines
 unfoldable pub seenIn : List (List ℕ) → Seen
 seenIn ls = record { version = anyNamed (text "version") ls; mode = heldMode (firstMode ls); age = heldAge (firstAge ls) }
 
--- a fault, or the fields and the number of patterns
-unfoldable pub outcome : Seen → ℕ → Option Fault → Checked
-outcome r m none = Read r m
-outcome r m (some fault) = Refused fault
+-- a fault, or the fields, the number of patterns and whether the host is listed
+unfoldable pub outcome : Seen → ℕ → Bool → Option Fault → Checked
+outcome r m x none = Read r m x
+outcome r m x (some fault) = Refused fault
 
--- the first fault of a body, or its fields and the number of its patterns
-unfoldable pub checked : List ℕ → Checked
-checked s = outcome (seenIn (lines s)) (length (patterns (lines s))) (bodyFault s)
+-- the first fault of a body, or its fields, the number of its patterns and whether the host is listed: where x says so, or a pattern covers it
+unfoldable pub checked : (h : List ℕ) (x : Bool) → List ℕ → Checked
+checked h x s = outcome (seenIn (lines s)) (length (patterns (lines s))) (x || someCovers h (patterns (lines s))) (bodyFault s)
 
 -- the answer to a policy with m patterns
 unfoldable pub accepted : Mode → ℕ → ℕ → PolicyAnswer
@@ -159,17 +170,19 @@ enough M.Enforce m = ltb 0 m
 enough M.Testing m = ltb 0 m
 enough M.None m = true
 
+-- the answer to a mode, a max_age, held or not, and m patterns
+unfoldable pub answerIn : Mode → MaybeAge → ℕ → PolicyAnswer
+answerIn mode HA.Nothing m = refused 52
+answerIn mode (HA.Is age) m = cond (enough mode m) (accepted mode age m) (refused 52)
+
 -- the answer to fields, held or not, and m patterns
 unfoldable pub answerWith : Bool → MaybeMode → MaybeAge → ℕ → PolicyAnswer
-answerWith false mode age m = refused 52
-answerWith true HM.Nothing age m = refused 52
-answerWith true (HM.Is mode) HA.Nothing m = refused 52
-answerWith true (HM.Is mode) (HA.Is age) m = cond (enough mode m) (accepted mode age m) (refused 52)
+answerWith version mode age m = cond version (cond (holdsMode mode) (answerIn (modeHeld mode) age m) (refused 52)) (refused 52)
 
 -- the same of all fields together
 unfoldable pub answerOf : Seen → ℕ → PolicyAnswer
 answerOf r m = answerWith (r .version) (r .mode) (r .age) m
 
--- an mx line whose pattern covers the host
-unfoldable pub lineCovers : List ℕ → List ℕ → Bool
-lineCovers host l = isNamed (text "mx") l && coversName (valueOf l) host
+-- an answer, for a host that is listed or not: a refused body lists none
+unfoldable pub forHost : PolicyAnswer → Bool → PolicyFor
+forHost answer x = record { answer = answer; listed = x && eqb (answer .number) 7 }

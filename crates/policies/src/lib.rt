@@ -1,6 +1,6 @@
 // The policy body (RFC 8461, 3.2).
 ghost use mathlib.Core.Path.{_≡_};
-ghost use mathlib.Core.Bool.{true};
+ghost use mathlib.Core.Bool.{true, _||_};
 ghost use Prim.Native.Nat.{_+_, _<_, _≤_};
 ghost use lib.ListN.{length, drop};
 ghost use Rattle.lists.specs.Bytes.{all};
@@ -10,8 +10,8 @@ ghost use Rattle.fields.specs.Name.{hasName, fieldAt};
 ghost use Rattle.policies.specs.Texts.{printable, isText, isValue};
 ghost use Rattle.policies.specs.declared.Checked.{Checked};
 ghost use Rattle.policies.specs.Fields.{modeOf, ageOf, valueOf};
-ghost use Rattle.policies.specs.Policy.{modeNumber, refused, policyAnswer, someMatches, patternsOf};
-ghost use Rattle.policies.specs.Reader.{textEnd, kindOf, digitOf, heldMode, heldAge, takeVersion, takeMode, takeAge, takeMx, takeField, takeLine, turnAt, checked, enough, accepted, answerOf, lineCovers};
+ghost use Rattle.policies.specs.Policy.{modeNumber, refused, policyAnswer, patternsOf, someCovers, policyFor};
+ghost use Rattle.policies.specs.Reader.{textEnd, kindOf, digitOf, heldMode, heldAge, holdsMode, modeHeld, takeVersion, takeMode, takeAge, takeMx, takeField, takeLine, turnAt, checked, enough, accepted, answerOf, forHost};
 use fields::Field;
 
 mod utf8;
@@ -44,6 +44,12 @@ pub struct PolicyAnswer {
     pub mx_count: u64,
 }
 
+// The answer to a policy body, and whether the body is accepted and one of its patterns covers a host.
+pub struct PolicyFor {
+    pub answer: PolicyAnswer,
+    pub listed: bool,
+}
+
 // The mode of a policy.
 pub enum Mode {
     Enforce,
@@ -67,9 +73,11 @@ pub struct Fault {
     pub offset: u64,
 }
 
-// A mode, or none.
+// A mode, or none. It holds no `Mode`, so that it is one byte, which is all that a line that leaves it has to carry on.
 enum MaybeMode {
-    Is(Mode),
+    Enforce,
+    Testing,
+    None,
     Nothing,
 }
 
@@ -95,24 +103,24 @@ struct Seen {
     age: MaybeAge,
 }
 
-// What a line does: it leaves these fields, it has a pattern, or it has a fault.
+// What a line does: it leaves these fields; it has a pattern, which says whether the host is listed from there on; or it has a fault.
 enum Step {
     Next(Seen),
-    Pattern,
+    Pattern(bool),
     Broken(Cause),
 }
 
 // The same with the place where the next line begins.
 enum Turn {
     Next(Seen, usize),
-    Pattern(usize),
+    Pattern(bool, usize),
     Broken(Cause),
 }
 
-// A whole body: its first fault, or its fields and the count of its patterns.
+// A whole body: its first fault, or its fields, the count of its patterns and whether the host is listed.
 enum Checked {
     Refused(Fault),
-    Read(Seen, u64),
+    Read(Seen, u64, bool),
 }
 
 // The kind of a field, by its name.
@@ -144,17 +152,41 @@ fn mode_of(v: &[u8]) -> MaybeMode
 {
     let enforce = lists::equal(v, b"enforce");
     if enforce {
-        return MaybeMode::Is(Mode::Enforce);
+        return MaybeMode::Enforce;
     }
     let testing = lists::equal(v, b"testing");
     if testing {
-        return MaybeMode::Is(Mode::Testing);
+        return MaybeMode::Testing;
     }
     let none = lists::equal(v, b"none");
     if none {
-        return MaybeMode::Is(Mode::None);
+        return MaybeMode::None;
     }
     MaybeMode::Nothing
+}
+
+// Whether it is a mode.
+fn holds_mode(mode: MaybeMode) -> bool
+    ensures { λ r. ⌜ r ≡ holdsMode mode ⌝ }
+{
+    match mode {
+        MaybeMode::Enforce => true,
+        MaybeMode::Testing => true,
+        MaybeMode::None => true,
+        MaybeMode::Nothing => false,
+    }
+}
+
+// The mode that is held; where none is, the answer says nothing.
+fn mode_in(mode: MaybeMode) -> Mode
+    ensures { λ r. ⌜ r ≡ modeHeld mode ⌝ }
+{
+    match mode {
+        MaybeMode::Enforce => Mode::Enforce,
+        MaybeMode::Testing => Mode::Testing,
+        MaybeMode::None => Mode::None,
+        MaybeMode::Nothing => Mode::None,
+    }
 }
 
 // The value of a digit, and 10 for any other byte.
@@ -219,13 +251,15 @@ fn take_mode(seen: Seen, v: &[u8]) -> Step
     ensures { λ r. ⌜ r ≡ takeMode seen (now (v .entry)) ⌝ }
 {
     let had = seen.mode;
-    if let MaybeMode::Is(_) = had {
+    let held = holds_mode(had);
+    if held {
         return Step::Next(seen);
     }
     let mode = mode_of(v);
-    let MaybeMode::Is(_) = mode else {
+    let good = holds_mode(mode);
+    if !good {
         return Step::Broken(Cause::Mode);
-    };
+    }
     let version = seen.version;
     let age = seen.age;
     Step::Next(Seen {
@@ -256,26 +290,30 @@ fn take_age(seen: Seen, v: &[u8]) -> Step
     })
 }
 
-// Every mx must be a pattern.
-fn take_mx(v: &[u8]) -> Step
-    ensures { λ r. ⌜ r ≡ takeMx (now (v .entry)) ⌝ }
+// Every mx must be a pattern. Where the host is listed already, it is not asked for again.
+fn take_mx(v: &[u8], host: &[u8], listed: bool) -> Step
+    ensures { λ r. ⌜ r ≡ takeMx (now (host .entry)) listed (now (v .entry)) ⌝ }
 {
     let good = names::is_pattern(v);
     if !good {
         return Step::Broken(Cause::Mx);
     }
-    Step::Pattern
+    if listed {
+        return Step::Pattern(true);
+    }
+    let covered = names::covers(v, host);
+    Step::Pattern(covered)
 }
 
 // What a field does to the fields seen so far.
-fn take_field(seen: Seen, kind: Kind, v: &[u8]) -> Step
-    ensures { λ r. ⌜ r ≡ takeField seen kind (now (v .entry)) ⌝ }
+fn take_field(seen: Seen, kind: Kind, v: &[u8], host: &[u8], listed: bool) -> Step
+    ensures { λ r. ⌜ r ≡ takeField (now (host .entry)) listed seen kind (now (v .entry)) ⌝ }
 {
     match kind {
         Kind::Version => take_version(seen, v),
         Kind::Mode => take_mode(seen, v),
         Kind::MaxAge => take_age(seen, v),
-        Kind::Mx => take_mx(v),
+        Kind::Mx => take_mx(v, host, listed),
         Kind::Other => Step::Next(seen),
     }
 }
@@ -312,9 +350,16 @@ fn is_value(v: &[u8], known: bool) -> bool
 }
 
 // What a line does whose name ends at `colon`; `known` says whether all bytes after the colon are printable.
-fn take_value(seen: Seen, line: &[u8], colon: usize, known: bool) -> Step
+fn take_value(
+    seen: Seen,
+    line: &[u8],
+    colon: usize,
+    known: bool,
+    host: &[u8],
+    listed: bool,
+) -> Step
     requires { ⌜ (hasName 58 (now line) ≡ true) × (colon ≡ indexOf 58 (now line)) × (colon < length (now line)) × (known ≡ all printable (drop (colon + 1) (now line))) ⌝ }
-    ensures { λ r. ⌜ r ≡ takeLine seen (now (line .entry)) ⌝ }
+    ensures { λ r. ⌜ r ≡ takeLine (now (host .entry)) listed seen (now (line .entry)) ⌝ }
 {
     let v = value_of(line, colon);
     let good = is_value(v, known);
@@ -322,17 +367,15 @@ fn take_value(seen: Seen, line: &[u8], colon: usize, known: bool) -> Step
         return Step::Broken(Cause::Form);
     }
     let kind = kind_of(&line[0..colon]);
-    take_field(seen, kind, v)
+    take_field(seen, kind, v, host, listed)
 }
 
 // The end of the text of the line that begins at `at` and whose LF, or the body's end, stands at `end`: a CR before the LF is no part of it.
 fn text_end(s: &[u8], at: usize, end: usize) -> usize
+    requires { ⌜ at < end ⌝ }
     ensures { λ r. ⌜ r ≡ textEnd (now (s .entry)) at end ⌝ }
 {
     if s.len() <= end {
-        return end;
-    }
-    if end <= at {
         return end;
     }
     let last = end - 1;
@@ -351,31 +394,45 @@ fn line_end(s: &[u8], from: usize) -> usize
 }
 
 // What the line does that begins at `at` and whose name ends at `colon`. Its other bytes are read once where they are printable.
-fn take_named(seen: Seen, s: &[u8], at: usize, colon: usize) -> Turn
+fn take_named(
+    seen: Seen,
+    s: &[u8],
+    at: usize,
+    colon: usize,
+    host: &[u8],
+    listed: bool,
+) -> Turn
     requires { ⌜ (Field.Named colon ≡ fieldAt 58 (now s) at) × (at ≤ colon) × (colon < length (now s)) × (length (now s) ≤ 65536) ⌝ }
-    ensures { λ r. ⌜ r ≡ turnAt seen (now (s .entry)) at ⌝ }
+    ensures { λ r. ⌜ r ≡ turnAt (now (host .entry)) listed seen (now (s .entry)) at ⌝ }
 {
     let printable = utf8::printable_end(s, colon + 1);
     let end = line_end(s, printable);
     let text = text_end(s, at, end);
-    let step = take_value(seen, &s[at..text], colon - at, text <= printable);
+    let step = take_value(
+        seen,
+        &s[at..text],
+        colon - at,
+        text <= printable,
+        host,
+        listed,
+    );
     match step {
         Step::Broken(cause) => Turn::Broken(cause),
-        Step::Pattern => Turn::Pattern(end + 1),
+        Step::Pattern(found) => Turn::Pattern(found, end + 1),
         Step::Next(next) => Turn::Next(next, end + 1),
     }
 }
 
 // What the line that begins at `at` does to the fields seen so far.
-fn take_line(seen: Seen, s: &[u8], at: usize) -> Turn
+fn take_line(seen: Seen, s: &[u8], at: usize, host: &[u8], listed: bool) -> Turn
     requires { ⌜ (at < length (now s)) × (length (now s) ≤ 65536) ⌝ }
-    ensures { λ r. ⌜ r ≡ turnAt seen (now (s .entry)) at ⌝ }
+    ensures { λ r. ⌜ r ≡ turnAt (now (host .entry)) listed seen (now (s .entry)) at ⌝ }
 {
     let field = fields::name_end(s, at, b':');
     let Field::Named(colon) = field else {
         return Turn::Broken(Cause::Form);
     };
-    take_named(seen, s, at, colon)
+    take_named(seen, s, at, colon, host, listed)
 }
 
 // A fault in the line that begins at `at` and has n lines before it.
@@ -390,10 +447,10 @@ fn faulty(cause: Cause, n: u64, at: usize) -> Checked
     })
 }
 
-// The first fault of a body, or its fields.
-fn check(s: &[u8]) -> Checked
+// The first fault of a body, or its fields. `known`: whether the host counts as listed from the start, so that no pattern is held against it.
+fn check(s: &[u8], host: &[u8], known: bool) -> Checked
     requires { ⌜ length (now s) ≤ 65536 ⌝ }
-    ensures { λ r. ⌜ r ≡ checked (now (s .entry)) ⌝ }
+    ensures { λ r. ⌜ r ≡ checked (now (host .entry)) known (now (s .entry)) ⌝ }
 {
     if s.len() == 0 {
         return faulty(Cause::Form, 0, 0);
@@ -404,13 +461,15 @@ fn check(s: &[u8]) -> Checked
         age: MaybeAge::Nothing,
     };
     let mut count: u64 = 0;
+    let mut listed = known;
     let mut n: u64 = 0;
     let mut at = 0;
     while at < s.len() {
-        let turn = take_line(seen, s, at);
+        let turn = take_line(seen, s, at, host, listed);
         match turn {
             Turn::Broken(cause) => return faulty(cause, n, at),
-            Turn::Pattern(next) => {
+            Turn::Pattern(found, next) => {
+                listed = found;
                 count += 1;
                 n += 1;
                 at = next;
@@ -422,7 +481,7 @@ fn check(s: &[u8]) -> Checked
             }
         }
     }
-    Checked::Read(seen, count)
+    Checked::Read(seen, count, listed)
 }
 
 // A refusal.
@@ -482,9 +541,11 @@ fn answer(seen: Seen, count: u64) -> PolicyAnswer
         return refusal(INCOMPLETE);
     }
     let first_mode = seen.mode;
-    let MaybeMode::Is(mode) = first_mode else {
+    let held = holds_mode(first_mode);
+    if !held {
         return refusal(INCOMPLETE);
-    };
+    }
+    let mode = mode_in(first_mode);
     let first_age = seen.age;
     let MaybeAge::Is(age) = first_age else {
         return refusal(INCOMPLETE);
@@ -496,55 +557,42 @@ fn answer(seen: Seen, count: u64) -> PolicyAnswer
     acceptance(mode, age, count)
 }
 
+// The answer, for a host that is listed or not: a refused body lists none.
+fn for_host(answer: PolicyAnswer, listed: bool) -> PolicyFor
+    ensures { λ r. ⌜ r ≡ forHost answer listed ⌝ }
+{
+    let number = answer.number;
+    PolicyFor {
+        answer: answer,
+        listed: listed && number == ACCEPTED,
+    }
+}
+
+// Reads a policy body for a host. `known` as in `check`.
+fn read_body(body: &[u8], host: &[u8], known: bool) -> PolicyFor
+    ensures { λ r. ⌜ r ≡ forHost (policyAnswer (now (body .entry))) (known || someCovers (now (host .entry)) (patternsOf (now (body .entry)))) ⌝ }
+{
+    if LONGEST_BODY < body.len() {
+        return for_host(refusal(TOO_LONG), false);
+    }
+    let read = check(body, host, known);
+    match read {
+        Checked::Refused(_) => for_host(refusal(MALFORMED), false),
+        Checked::Read(seen, count, listed) => for_host(answer(seen, count), listed),
+    }
+}
+
 // Reads a policy body: 7 with its mode, lifetime and count of mx lines, or 50, 51, 52.
 pub fn read_policy(body: &[u8]) -> PolicyAnswer
     ensures { λ r. ⌜ r ≡ policyAnswer (now (body .entry)) ⌝ }
 {
-    if LONGEST_BODY < body.len() {
-        return refusal(TOO_LONG);
-    }
-    let read = check(body);
-    match read {
-        Checked::Refused(_) => refusal(MALFORMED),
-        Checked::Read(seen, count) => answer(seen, count),
-    }
+    let read = read_body(body, b"", true);
+    read.answer
 }
 
-// Whether the line is an mx line whose pattern covers the host.
-fn line_covers(line: &[u8], host: &[u8]) -> bool
-    ensures { λ r. ⌜ r ≡ lineCovers (now (host .entry)) (now (line .entry)) ⌝ }
+// The same, and whether the policy lists the host: whether one of its patterns covers the host, which for a name is whether it matches it.
+pub fn read_policy_for(body: &[u8], host: &[u8]) -> PolicyFor
+    ensures { λ r. ⌜ r ≡ policyFor (now (body .entry)) (now (host .entry)) ⌝ }
 {
-    let colon = lists::find(line, b':', 0);
-    if line.len() <= colon {
-        return false;
-    }
-    let named = lists::equal(&line[0..colon], b"mx");
-    if !named {
-        return false;
-    }
-    names::covers(value_of(line, colon), host)
-}
-
-// Whether one of the body's patterns matches the host; the body may also be one that is refused.
-pub fn some_pattern_matches(body: &[u8], host: &[u8]) -> bool
-    ensures { λ r. ⌜ r ≡ someMatches (now (host .entry)) (patternsOf (now (body .entry))) ⌝ }
-{
-    let good = names::is_name(host);
-    if !good {
-        return false;
-    }
-    let mut at = 0;
-    while at < body.len() {
-        let end = line_end(body, at);
-        let text = text_end(body, at, end);
-        let hit = line_covers(&body[at..text], host);
-        if hit {
-            return true;
-        }
-        if body.len() <= end {
-            return false;
-        }
-        at = end + 1;
-    }
-    false
+    read_body(body, host, false)
 }

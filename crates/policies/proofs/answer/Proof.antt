@@ -9,11 +9,8 @@ refusal-requires c κs = search answer-laws
 returns : tie.Need-returns
 returns c = search answer-laws
 
-enum-known-first-mode : tie.Need-enum-known-first-mode
-enum-known-first-mode c = search answer-laws
-
-enum-told : tie.Need-enum-told
-enum-told c = search answer-laws
+holds-mode-requires : tie.Need-holds-mode-requires
+holds-mode-requires c κs = search answer-laws
 
 refusal-requires-2 : tie.Need-refusal-requires-2
 refusal-requires-2 c κs = search answer-laws
@@ -21,11 +18,14 @@ refusal-requires-2 c κs = search answer-laws
 returns-2 : tie.Need-returns-2
 returns-2 c = search answer-laws
 
+mode-in-requires : tie.Need-mode-in-requires
+mode-in-requires c κs = search answer-laws
+
 enum-known-first-age : tie.Need-enum-known-first-age
 enum-known-first-age c = search answer-laws
 
-enum-told-2 : tie.Need-enum-told-2
-enum-told-2 c = search answer-laws
+enum-told : tie.Need-enum-told
+enum-told c = search answer-laws
 
 refusal-requires-3 : tie.Need-refusal-requires-3
 refusal-requires-3 c κs = search answer-laws
@@ -54,12 +54,12 @@ answer-spec =
     (tie.spec
     refusal-requires
     returns
-    enum-known-first-mode
-    enum-told
+    holds-mode-requires
     refusal-requires-2
     returns-2
+    mode-in-requires
     enum-known-first-age
-    enum-told-2
+    enum-told
     refusal-requires-3
     returns-3
     is-enough-requires

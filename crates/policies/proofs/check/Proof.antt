@@ -5,15 +5,15 @@ use lib.ListN.{length, drop}
 use Rattle.policies.specs.Lines.{lines, lineStart}
 use Rattle.policies.specs.Reader.{checked}
 use Rattle.policies.proofs.Same.{run}
-use Rattle.policies.proofs.Same.{check-laws}
+use Rattle.policies.proofs.Same.{check-pattern, check-next, check-laws}
 use Rattle.policies.proofs.check.Statement.{statement}
 use Rattle.policies.proofs.check.Tie as tie
 
 abbrev Inv-loop : tie.InvT-loop
-Inv-loop s seen₀ count₀ n₀ at₀ seen count n at = (at ≤ length s + 1) × (n ≤ at) × (count ≤ n) × (at ≡ lineStart s n) × (checked s ≡ run s seen count n (lines (drop at s)))
+Inv-loop s host known seen₀ count₀ listed₀ n₀ at₀ seen count listed n at = (at ≤ length s + 1) × (n ≤ at) × (count ≤ n) × (at ≡ lineStart s n) × (checked host known s ≡ run host s seen count listed n (lines (drop at s)))
 
 abbrev μ-loop : tie.MeasureT-loop
-μ-loop s seen₀ count₀ n₀ at₀ seen count n at = length s + 1 - at
+μ-loop s host known seen₀ count₀ listed₀ n₀ at₀ seen count listed n at = length s + 1 - at
 
 faulty-requires : tie.Need-faulty-requires Inv-loop μ-loop
 faulty-requires c κs = search check-laws
@@ -49,7 +49,9 @@ loop-less : tie.Need-loop-less Inv-loop μ-loop
 loop-less c = search check-laws
 
 loop-again : tie.Need-loop-again Inv-loop μ-loop
-loop-again c = search check-laws
+loop-again c =
+    let head = c .before .before .before .before .before in
+    (search check-laws, search check-laws, search check-laws, search check-laws, search (check-pattern _ (head .loop .listed) _ (head .loop .seen) (head .loop .at) _ (c .before .before .before .take-line .ensures) _ _ _ (head .loop .inv .4)))
 
 enum-known-turn-3 : tie.Need-enum-known-turn-3 Inv-loop μ-loop
 enum-known-turn-3 c = search check-laws
@@ -61,7 +63,9 @@ loop-less-2 : tie.Need-loop-less-2 Inv-loop μ-loop
 loop-less-2 c = search check-laws
 
 loop-again-2 : tie.Need-loop-again-2 Inv-loop μ-loop
-loop-again-2 c = search check-laws
+loop-again-2 c =
+    let head = c .before .before .before .before .before in
+    (search check-laws, search check-laws, search check-laws, search check-laws, search (check-next _ (head .loop .listed) _ (head .loop .seen) (head .loop .at) _ (c .before .before .before .take-line .ensures) _ _ _ (head .loop .inv .4)))
 
 returns-3 : tie.Need-returns-3 Inv-loop μ-loop
 returns-3 c = search check-laws

@@ -3,23 +3,17 @@ use Rattle.policies.proofs.Takes.{mode-laws}
 use Rattle.policies.proofs.take_mode.Statement.{statement}
 use Rattle.policies.proofs.take_mode.Tie as tie
 
-enum-told : tie.Need-enum-told
-enum-told c = search mode-laws
+holds-mode-requires : tie.Need-holds-mode-requires
+holds-mode-requires c κs = search mode-laws
 
 returns : tie.Need-returns
 returns c = search mode-laws
 
-enum-told-2 : tie.Need-enum-told-2
-enum-told-2 c = search mode-laws
-
 mode-of-requires : tie.Need-mode-of-requires
 mode-of-requires c κs = search mode-laws
 
-enum-told-3 : tie.Need-enum-told-3
-enum-told-3 c = search mode-laws
-
-enum-told-4 : tie.Need-enum-told-4
-enum-told-4 c = search mode-laws
+holds-mode-requires-2 : tie.Need-holds-mode-requires-2
+holds-mode-requires-2 c κs = search mode-laws
 
 returns-2 : tie.Need-returns-2
 returns-2 c = search mode-laws
@@ -31,11 +25,9 @@ pub take-mode-spec : {M : Type 1} → statement M
 take-mode-spec =
     tie.close
     (tie.spec
-    enum-told
+    holds-mode-requires
     returns
-    enum-told-2
     mode-of-requires
-    enum-told-3
-    enum-told-4
+    holds-mode-requires-2
     returns-2
     returns-3)

@@ -33,17 +33,17 @@ take-value-requires c κs = search named-laws
 enum-known-step : tie.Need-enum-known-step
 enum-known-step c = search named-laws
 
-enum-told : tie.Need-enum-told
-enum-told c = search named-laws
-
-add-t18 : tie.Need-add-t18
-add-t18 c = search named-laws
-
 enum-known-step-2 : tie.Need-enum-known-step-2
 enum-known-step-2 c = search named-laws
 
-add-t19 : tie.Need-add-t19
-add-t19 c = search named-laws
+add-t21 : tie.Need-add-t21
+add-t21 c = search named-laws
+
+enum-known-step-3 : tie.Need-enum-known-step-3
+enum-known-step-3 c = search named-laws
+
+add-t22 : tie.Need-add-t22
+add-t22 c = search named-laws
 
 returns : tie.Need-returns
 returns c = search named-laws
@@ -68,10 +68,10 @@ take-named-spec =
     sub-take-value-2
     take-value-requires
     enum-known-step
-    enum-told
-    add-t18
     enum-known-step-2
-    add-t19
+    add-t21
+    enum-known-step-3
+    add-t22
     returns
     returns-2
     returns-3)

@@ -1,4 +1,4 @@
--- `hosts::walk::is_unlisted` meets its contract. Assumes nothing.
+-- `hosts::walk/is_unlisted` meets its contract. Assumes nothing.
 use Rattle.hosts.proofs.WalkWays.{unlisted-laws}
 use Rattle.hosts.proofs.walk.is_unlisted.Statement.{statement}
 use Rattle.hosts.proofs.walk.is_unlisted.Tie as tie
@@ -6,11 +6,8 @@ use Rattle.hosts.proofs.walk.is_unlisted.Tie as tie
 returns : tie.Need-returns
 returns c = search unlisted-laws
 
-some-pattern-matches-requires : tie.Need-some-pattern-matches-requires
-some-pattern-matches-requires c κs = search unlisted-laws
-
 returns-2 : tie.Need-returns-2
 returns-2 c = search unlisted-laws
 
 pub is-unlisted-spec : {M : Type 1} → statement M
-is-unlisted-spec = tie.close (tie.spec returns some-pattern-matches-requires returns-2)
+is-unlisted-spec = tie.close (tie.spec returns returns-2)
