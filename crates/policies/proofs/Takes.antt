@@ -1,26 +1,27 @@
 -- The ways out of the functions that take a field or a line. Assumes nothing.
-use Prim.Native.Nat.{ℕ, _+_, _-_, _<_, _≤_}
+use Prim.Native.Nat.{ℕ, zero, suc, _+_, _-_, _<_, _≤_}
 use mathlib.Core.Path.{_≡_, refl, sym, _∙_}
-use mathlib.Core.Bool.{Bool, true, false, and-false}
-use mathlib.Core.List.{List}
+use mathlib.Core.Bool.{Bool, true, false, cond, not, _&&_, and-false, and-true}
+use mathlib.Core.List.{List, [], _∷_}
 use mathlib.Core.Option.{Option, none, some}
 use native.Mathlib.Omega.{arith}
-use lib.ListN.{length, take, drop, length-drop}
-use lib.Seq.{drop-drop}
+use lib.Dec.{eqb, leb}
+use lib.ListN.{length, getD, take, drop, length-drop}
+use lib.Seq.{drop-drop, length-take-le, getD-take, getD-drop}
 use borrow.Author.Needs.{needs}
-use borrow.Author.Tests.{not-true, not-false}
+use borrow.Author.Tests.{not-true, not-false, ne-eqb, leb-true}
 use Rattle.lists.specs.Bytes.{all}
 use Rattle.lists.specs.Equal.{sameBytes}
 use Rattle.lists.specs.Span.{spanOf}
 use Rattle.lists.specs.Split.{indexOf}
 use Rattle.lists.specs.Text.{text}
 use Rattle.lists.proofs.Laws.{take-rest}
-use Rattle.lists.proofs.Span.{span-le}
+use Rattle.lists.proofs.Span.{span-le, span-stops}
 use Rattle.lists.proofs.All.{all-drop, all-take}
 use Rattle.lists.proofs.Bools.{never}
 use Rattle.names.specs.Name.{isPattern}
 use Rattle.names.specs.Scan.{coversName}
-use Rattle.fields.specs.Name.{hasName}
+use Rattle.fields.specs.Name.{after, hasName}
 use Rattle.fields.specs.Blank.{blank, unblanked}
 use Rattle.fields.proofs.Blank.{unblanked-le}
 use Rattle.policies.specs.declared.Cause.{Cause}
@@ -31,7 +32,7 @@ use Rattle.policies.specs.declared.Seen.{Seen}
 use Rattle.policies.specs.declared.Step.{Step}
 use Rattle.policies.specs.Texts.{printable, isText, isValue}
 use Rattle.policies.specs.Fields.{nameOf, valueOf, isLine, isVersion, modeOf, ageOf}
-use Rattle.policies.specs.Reader.{kindOf, heldMode, heldAge, holdsMode, holdsAge, newMode, newAge, takeVersion, takeMode, takeAge, takeMx, takeField, takeLine}
+use Rattle.policies.specs.Reader.{strippedValue, kindOf, heldMode, heldAge, holdsMode, holdsAge, newMode, newAge, takeVersion, takeMode, takeAge, takeMx, takeField, takeLine}
 use Rattle.policies.proofs.Texts.{printable-text}
 
 -- `take_version`, `take_mode`, `take_age` and `take_mx`: r is what was seen before the value v
@@ -161,18 +162,75 @@ printable-value l v e b at g x y =
     let k : all printable d ≡ true = rw at at (sym g ∙ y) in
     rw x (printable-text (valueOf l) (all-take printable (unblanked f) f (all-drop printable (spanOf blank d) d k)))
 
+-- the value of a line has no blank at either end
+no-space : (b : ℕ) → blank b ≡ false → b ≡ 32 → ⊥
+unfolding blank
+no-space b h e = let z : _≡_ {A = ℕ} 0 1 = cc in omega arith
+
+all-blank : (t : List ℕ) → unblanked t ≡ 0 → all blank t ≡ true
+unfolding unblanked all
+all-blank [] h = refl
+all-blank (b ∷ t) h = go (all blank (b ∷ t)) h
+  where
+    go : (y : Bool) → cond y 0 (suc (unblanked t)) ≡ 0 → y ≡ true
+    go true h = refl
+    go false h = absurd (omega arith)
+
+last-kept : (t : List ℕ) → 1 ≤ unblanked t → blank (getD t (unblanked t - 1) 0) ≡ false
+unfolding unblanked all
+last-kept [] h = absurd (omega arith)
+last-kept (b ∷ t) h = go (last-kept t) (all-blank t) (unblanked t) refl (all blank (b ∷ t)) refl h
+  where
+    go : (1 ≤ unblanked t → blank (getD t (unblanked t - 1) 0) ≡ false) → (unblanked t ≡ 0 → all blank t ≡ true) → (k : ℕ) → unblanked t ≡ k → (y : Bool) → (blank b && all blank t) ≡ y → 1 ≤ cond y 0 (suc (unblanked t)) → blank (getD (b ∷ t) (cond y 0 (suc (unblanked t)) - 1) 0) ≡ false
+    go ih nb k e true f h = absurd (omega arith)
+    go ih nb zero e false f h =
+        let z : suc (unblanked t) - 1 ≡ 0 = omega arith in
+        rw z (sym (and-true (blank b)) ∙ rw (nb e) at f)
+    go ih nb (suc k) e false f h =
+        let z : suc (unblanked t) - 1 ≡ suc k = omega arith in
+        let y : unblanked t - 1 ≡ k = omega arith in
+        rw z (rw y at (ih (omega arith)))
+
+module _ (d : List ℕ) (h : 1 ≤ length (take (unblanked (drop (spanOf blank d) d)) (drop (spanOf blank d) d))) where
+  abbrev rest : List ℕ
+  rest = drop (spanOf blank d) d
+
+  size : length (take (unblanked rest) rest) ≡ unblanked rest
+  size = length-take-le (unblanked rest) rest (unblanked-le rest)
+
+  front : getD (take (unblanked rest) rest) 0 0 ≡ 32 → ⊥
+  front e =
+      let k : getD (take (unblanked rest) rest) 0 0 ≡ getD d (spanOf blank d + 0) 0 = getD-take (unblanked rest) rest 0 0 (omega (arith, size)) ∙ getD-drop (spanOf blank d) d 0 0 in
+      let z : spanOf blank d + 0 ≡ spanOf blank d = omega arith in
+      no-space (getD d (spanOf blank d) 0) (span-stops blank d (omega (arith, size, unblanked-le rest, length-drop (spanOf blank d) d))) (rw z at (sym k ∙ e))
+
+  back : getD (take (unblanked rest) rest) (length (take (unblanked rest) rest) - 1) 0 ≡ 32 → ⊥
+  back e =
+      let k : getD (take (unblanked rest) rest) (unblanked rest - 1) 0 ≡ getD rest (unblanked rest - 1) 0 = getD-take (unblanked rest) rest (unblanked rest - 1) 0 (omega (arith, size)) in
+      no-space (getD rest (unblanked rest - 1) 0) (last-kept rest (omega (arith, size))) (sym k ∙ rw size at e)
+
+stripped : (l : List ℕ) → isValue (valueOf l) ≡ strippedValue (valueOf l)
+unfolding isValue strippedValue valueOf
+stripped l = go (leb 1 (length (valueOf l))) refl
+  where
+    go : (t : Bool) → leb 1 (length (valueOf l)) ≡ t → (t && not (eqb (getD (valueOf l) 0 0) 32) && not (eqb (getD (valueOf l) (length (valueOf l) - 1) 0) 32) && isText (valueOf l)) ≡ (t && isText (valueOf l))
+    go true e =
+        let h : 1 ≤ length (valueOf l) = leb-true 1 (length (valueOf l)) e in
+        rw (ne-eqb (getD (valueOf l) 0 0) 32 (front (after 58 l) h), ne-eqb (getD (valueOf l) (length (valueOf l) - 1) 0) 32 (back (after 58 l) h))
+    go false e = refl
+
 -- `take_value`: v is the line's value, b whether it is a value
-module _ (h : List ℕ) (x : Bool) (r : Seen) (l : List ℕ) (v : List ℕ) (y : v ≡ valueOf l) (b : Bool) (g : b ≡ isValue v) where
+module _ (h : List ℕ) (x : Bool) (r : Seen) (l : List ℕ) (v : List ℕ) (y : v ≡ valueOf l) (b : Bool) (g : b ≡ strippedValue v) where
   pub line-bad : b ≡ false → Step.Broken Cause.Form ≡ takeLine h x r l
   unfolding takeLine isLine
   line-bad e =
-      let k : isValue (valueOf l) ≡ false = cc in
+      let k : isValue (valueOf l) ≡ false = cc (stripped l) in
       rw (k, and-false)
 
   pub line-good : (e : ℕ) → hasName 58 l ≡ true → e ≡ indexOf 58 l → b ≡ true → (k : Kind) → k ≡ kindOf (take (e - 0) l) → (s : Step) → s ≡ takeField h x r k v → s ≡ takeLine h x r l
   unfolding takeLine isLine nameOf
   line-good e has at t k c s f =
-      let i : isValue (valueOf l) ≡ true = cc in
+      let i : isValue (valueOf l) ≡ true = cc (stripped l) in
       let z : e - 0 ≡ e = omega arith in
       rw (i, has, sym at) (f ∙ rw (c, y, z))
 

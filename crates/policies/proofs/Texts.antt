@@ -13,8 +13,8 @@ use borrow.Author.Tests.{not-true, not-false, lt-leb, le-leb, eq-eqb, ne-eqb}
 use Rattle.lists.specs.Bytes.{within, all}
 use Rattle.lists.proofs.Laws.{drop-next, take-rest, above-or-below}
 use Rattle.lists.proofs.Bools.{never}
-use Rattle.policies.specs.Texts.{utf8Tail, utf8Two, utf8Three, utf8Four, printable, isText, isValue}
-use Rattle.policies.specs.Reader.{sizeOf, sizeAt}
+use Rattle.policies.specs.Texts.{utf8Tail, utf8Two, utf8Three, utf8Four, printable, isText}
+use Rattle.policies.specs.Reader.{strippedValue, sizeOf, sizeAt}
 
 pub tail-is : (b : ℕ) (r : Bool) → r ≡ within 128 191 b → r ≡ utf8Tail b
 unfolding utf8Tail
@@ -265,15 +265,19 @@ text-good v i inv h = sym (inv ∙ rw (drop-of-length-le v h))
 
 pub ruleset text-laws = (value-plain, value-fits, value-sequence, text-broken, text-good, not-true, not-false, needs)
 
-pub value-known : (v : List ℕ) (b : Bool) → (b ≡ true → isText v ≡ true) → b ≡ true → 1 ≤ length v → (getD v 0 0 ≡ 32 → ⊥) → (getD v (length v - 1) 0 ≡ 32 → ⊥) → true ≡ isValue v
-unfolding isValue
-value-known v b k y l f z = cc (k y, le-leb 1 (length v) l, ne-eqb (getD v 0 0) 32 f, ne-eqb (getD v (length v - 1) 0) 32 z)
+pub value-known : (v : List ℕ) (b : Bool) → (b ≡ true → isText v ≡ true) → b ≡ true → 1 ≤ length v → true ≡ strippedValue v
+unfolding strippedValue
+value-known v b f e l = rw (le-leb 1 (length v) l, f e)
 
-pub value-is : (v : List ℕ) (r : Bool) → r ≡ isText v → 1 ≤ length v → (getD v 0 0 ≡ 32 → ⊥) → (getD v (length v - 1) 0 ≡ 32 → ⊥) → r ≡ isValue v
-unfolding isValue
-value-is v r e l f z = cc (le-leb 1 (length v) l, ne-eqb (getD v 0 0) 32 f, ne-eqb (getD v (length v - 1) 0) 32 z)
+pub value-is : (v : List ℕ) (r : Bool) → r ≡ isText v → 1 ≤ length v → r ≡ strippedValue v
+unfolding strippedValue
+value-is v r e l = rw (le-leb 1 (length v) l) e
 
-pub ruleset value-laws = (value-is, value-known, needs)
+pub value-short : (v : List ℕ) → length v < 1 → false ≡ strippedValue v
+unfolding strippedValue
+value-short v h = rw (lt-leb 1 (length v) h)
+
+pub ruleset value-laws = (value-short, value-is, value-known, needs)
 
 -- printable bytes are a text
 pub printable-text : (u : List ℕ) → all printable u ≡ true → isText u ≡ true

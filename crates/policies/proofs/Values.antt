@@ -1,25 +1,25 @@
 -- The ways out of the functions that read a name or a value. Assumes nothing.
 use Prim.Native.Nat.{ℕ, _+_, _*_, _-_, _^_, _<_, _≤_}
 use mathlib.Core.Path.{_≡_, refl, sym, ap, _∙_}
-use mathlib.Core.Bool.{Bool, true, false, cond, and-false}
+use mathlib.Core.Bool.{Bool, true, false, and-false}
 use mathlib.Core.List.{List}
 use native.Mathlib.Nat.{pow-suc, pow-le-pow-right}
 use native.Mathlib.Numerals.{add-one}
 use native.Mathlib.Omega.{arith}
 use lib.ListN.{length, getD, drop, drop-of-length-le}
 use borrow.Author.Needs.{needs}
-use borrow.Author.Tests.{not-true, not-false, lt-leb, le-leb}
-use Rattle.lists.specs.Bytes.{within, all}
+use borrow.Author.Tests.{lt-leb, le-leb}
+use Rattle.lists.specs.Bytes.{all}
 use Rattle.lists.specs.Equal.{sameBytes}
 use Rattle.lists.specs.Text.{text}
 use Rattle.lists.proofs.All.{all-next, all-fail, all-end}
-use Rattle.lists.proofs.Laws.{drop-next, within-true}
+use Rattle.lists.proofs.Laws.{drop-next}
 use Rattle.policies.specs.declared.Kind.{Kind}
 use Rattle.policies.specs.declared.Mode.{Mode}
 use Rattle.policies.specs.declared.MaybeMode.{MaybeMode}
 use Rattle.policies.specs.declared.MaybeAge.{MaybeAge}
 use Rattle.policies.specs.Fields.{modeOf, isDigit, decimalAfter, ageOf}
-use Rattle.policies.specs.Reader.{kindOf, digitOf, heldMode, heldAge, holdsMode, modeHeld}
+use Rattle.policies.specs.Reader.{kindOf, heldMode, heldAge, holdsMode, modeHeld}
 
 -- `kind_of`: a, b, c, d are what its calls gave
 module _ (n : List ℕ) (a : Bool) (p : a ≡ sameBytes n (text "mx")) where
@@ -108,49 +108,6 @@ pub ruleset holds-laws = (holds-enforce, holds-testing, holds-none, holds-nothin
 
 pub ruleset in-laws = (in-enforce, in-testing, in-none, in-nothing, needs)
 
--- a digit is between `0` and `9`
-pub digit-between : (b : ℕ) → isDigit b ≡ true → (48 ≤ b) × (b ≤ 57)
-unfolding isDigit
-digit-between b e = within-true 48 57 b e
-
--- `digit_of`: r is what `is_within` gave
-module _ (b : ℕ) (r : Bool) (g : r ≡ within 48 57 b) where
-  pub digit-none : r ≡ false → 10 ≡ digitOf b
-  unfolding digitOf isDigit
-  digit-none e = cc
-
-  pub digit-low : r ≡ true → b < 48 → 10 ≡ digitOf b
-  unfolding isDigit
-  digit-low e h = absurd (omega (arith, digit-between b (sym g ∙ e) .0))
-
-  pub digit-value : r ≡ true → b - 48 ≡ digitOf b
-  unfolding digitOf isDigit
-  digit-value e = cc
-
-pub ruleset digit-laws = (digit-none, digit-low, digit-value, not-true, not-false, needs)
-
--- what the value of a digit says
-module _ (b d : ℕ) (e : d ≡ digitOf b) where
-  digit-yes : d ≤ 9 → isDigit b ≡ true
-  unfolding digitOf
-  digit-yes h = go (isDigit b) e
-    where
-      go : (t : Bool) → d ≡ cond t (b - 48) 10 → t ≡ true
-      go true e = refl
-      go false e = absurd (omega arith)
-
-  digit-no : 9 < d → isDigit b ≡ false
-  unfolding digitOf
-  digit-no h = go (isDigit b) refl e
-    where
-      go : (t : Bool) → isDigit b ≡ t → d ≡ cond t (b - 48) 10 → t ≡ false
-      go true p e = absurd (omega (arith, digit-between b p .1))
-      go false p e = refl
-
-  digit-is : d ≤ 9 → d ≡ b - 48
-  unfolding digitOf
-  digit-is h = e ∙ rw (digit-yes h)
-
 -- `age_of`: its ways out, and a turn of its loop, where d is the digit at i
 pub age-short : (v : List ℕ) → length v < 1 → MaybeAge.Nothing ≡ heldAge (ageOf v)
 unfolding heldAge ageOf
@@ -162,25 +119,37 @@ age-long v h =
     let k : 1 ≤ length v = omega arith in
     rw (le-leb 1 (length v) k, lt-leb (length v) 10 h)
 
-pub below-next : (n d i : ℕ) → n < 10 ^ i → d ≤ 9 → n * 10 + d < 10 ^ (i + 1)
-below-next n d i h k =
+pub below-next : (n b i : ℕ) → n < 10 ^ i → b ≤ 57 → n * 10 + (b - 48) < 10 ^ (i + 1)
+below-next n b i h k =
     let e : 10 ^ (i + 1) ≡ 10 ^ i * 10 = ap (λ (k : ℕ). 10 ^ k) (add-one i) ∙ pow-suc 10 i in
     omega arith
 
 pub below-most : (i k : ℕ) → i < k → k ≤ 10 → 10 ^ (i + 1) ≤ 10000000000
 below-most i k h l = pow-le-pow-right {n = 10} (omega arith) {i = i + 1} {j = 10} (omega arith)
 
-module _ (v : List ℕ) (i : ℕ) (d : ℕ) (h : i < length v) (g : d ≡ digitOf (getD v i 0)) where
-  pub age-digits : all isDigit v ≡ all isDigit (drop i v) → d ≤ 9 → all isDigit v ≡ all isDigit (drop (i + 1) v)
-  age-digits inv k = all-next isDigit v i inv h true (sym (digit-yes (getD v i 0) d g k)) refl
+module _ (v : List ℕ) (i : ℕ) (h : i < length v) where
+  pub age-low : all isDigit v ≡ all isDigit (drop i v) → getD v i 0 < 48 → MaybeAge.Nothing ≡ heldAge (ageOf v)
+  unfolding heldAge ageOf isDigit
+  age-low inv k =
+      let no : isDigit (getD v i 0) ≡ false = rw (lt-leb 48 (getD v i 0) k) in
+      simp (all-fail isDigit v i inv h false (sym no) refl, and-false)
 
-  pub age-other : all isDigit v ≡ all isDigit (drop i v) → 9 < d → MaybeAge.Nothing ≡ heldAge (ageOf v)
-  unfolding heldAge ageOf
-  age-other inv k = simp (all-fail isDigit v i inv h false (sym (digit-no (getD v i 0) d g k)) refl, and-false)
+  module _ (low : 48 ≤ getD v i 0) where
+    pub age-high : all isDigit v ≡ all isDigit (drop i v) → 57 < getD v i 0 → MaybeAge.Nothing ≡ heldAge (ageOf v)
+    unfolding heldAge ageOf isDigit
+    age-high inv k =
+        let no : isDigit (getD v i 0) ≡ false = rw (le-leb 48 (getD v i 0) low, lt-leb (getD v i 0) 57 k) in
+        simp (all-fail isDigit v i inv h false (sym no) refl, and-false)
 
-  pub age-next : (n : ℕ) → decimalAfter 0 v ≡ decimalAfter n (drop i v) → d ≤ 9 → decimalAfter 0 v ≡ decimalAfter (n * 10 + d) (drop (i + 1) v)
+    pub age-digits : all isDigit v ≡ all isDigit (drop i v) → getD v i 0 ≤ 57 → all isDigit v ≡ all isDigit (drop (i + 1) v)
+    unfolding isDigit
+    age-digits inv k =
+        let yes : isDigit (getD v i 0) ≡ true = rw (le-leb 48 (getD v i 0) low, le-leb (getD v i 0) 57 k) in
+        all-next isDigit v i inv h true (sym yes) refl
+
+  pub age-next : (n : ℕ) → decimalAfter 0 v ≡ decimalAfter n (drop i v) → decimalAfter 0 v ≡ decimalAfter (n * 10 + (getD v i 0 - 48)) (drop (i + 1) v)
   unfolding decimalAfter
-  age-next n inv k = inv ∙ rw (drop-next v i h, digit-is (getD v i 0) d g k)
+  age-next n inv = inv ∙ rw (drop-next v i h)
 
 pub age-good : (v : List ℕ) (i n : ℕ) → all isDigit v ≡ all isDigit (drop i v) → decimalAfter 0 v ≡ decimalAfter n (drop i v) → length v ≤ i → 1 ≤ length v → length v ≤ 10 → MaybeAge.Is n ≡ heldAge (ageOf v)
 unfolding heldAge ageOf decimalAfter
@@ -188,4 +157,4 @@ age-good v i n a inv h l m =
     let k : decimalAfter 0 v ≡ n = inv ∙ rw (drop-of-length-le v h) in
     rw (k, all-end isDigit v i a h, le-leb 1 (length v) l, le-leb (length v) 10 m)
 
-pub ruleset age-laws = (age-short, age-long, below-next, below-most, age-digits, age-other, age-next, age-good, needs)
+pub ruleset age-laws = (age-short, age-long, below-next, below-most, age-low, age-high, age-digits, age-next, age-good, needs)

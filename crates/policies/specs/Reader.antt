@@ -1,10 +1,9 @@
 -- The reader's own steps, for the contracts of its private functions: not the paper's words, but the same answers (proofs/Same.antt and proofs/Answers.antt join them).
-use Prim.Native.Char.{code}
 use Prim.Native.Nat.{ℕ, _+_, _-_}
 use mathlib.Core.Bool.{Bool, true, false, cond, _&&_, _||_}
 use mathlib.Core.List.{List}
 use mathlib.Core.Option.{Option, none, some}
-use lib.Dec.{eqb, ltb}
+use lib.Dec.{eqb, leb, ltb}
 use lib.ListN.{length, getD, take, drop}
 use Rattle.lists.specs.Equal.{sameBytes}
 use Rattle.lists.specs.Split.{indexOf}
@@ -31,9 +30,9 @@ use Rattle.policies.specs.declared.Checked.{Checked}
 use Rattle.policies.specs.declared.Checked.the-variants.{Refused, Read}
 use Rattle.policies.specs.declared.PolicyAnswer.{PolicyAnswer}
 use Rattle.policies.specs.declared.PolicyFor.{PolicyFor}
-use Rattle.policies.specs.Texts.{utf8Two, utf8Three, utf8Four}
+use Rattle.policies.specs.Texts.{utf8Two, utf8Three, utf8Four, isText}
 use Rattle.policies.specs.Lines.{LF, CR, lines}
-use Rattle.policies.specs.Fields.{nameOf, valueOf, isLine, anyNamed, patterns, isVersion, modeOf, isDigit, ageOf}
+use Rattle.policies.specs.Fields.{nameOf, valueOf, isLine, anyNamed, patterns, isVersion, modeOf, ageOf}
 use Rattle.policies.specs.Policy.{bodyFault, firstMode, firstAge, modeNumber, refused, someCovers}
 
 -- how many bytes the sequence of 2 to 4 has that begins with these bytes, and 0 where none does
@@ -43,6 +42,10 @@ sizeOf a b c d = cond (utf8Two a b) 2 (cond (utf8Three a b c) 3 (cond (utf8Four 
 -- the same of the bytes at the front of a list
 unfoldable pub sizeAt : List ℕ → ℕ
 sizeAt s = sizeOf (getD s 0 0) (getD s 1 0) (getD s 2 0) (getD s 3 0)
+
+-- a value, of a text with no blank at either end
+unfoldable pub strippedValue : List ℕ → Bool
+strippedValue v = leb 1 (length v) && isText v
 
 -- the end of the text of a line that begins at `at` and whose LF, or the body's end, stands at e
 unfoldable pub textEnd : List ℕ → ℕ → ℕ → ℕ
@@ -56,10 +59,6 @@ kindOf name =
     (cond (sameBytes name (text "mode")) K.Mode
     (cond (sameBytes name (text "max_age")) K.MaxAge
     K.Other)))
-
--- the value of a digit, and 10 for any other byte
-unfoldable pub digitOf : ℕ → ℕ
-digitOf b = cond (isDigit b) (b - code "0") 10
 
 -- a mode as the code holds it
 unfoldable pub heldMode : Option Mode → MaybeMode

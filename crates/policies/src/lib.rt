@@ -7,11 +7,11 @@ ghost use Rattle.lists.specs.Bytes.{all};
 ghost use Rattle.lists.specs.Split.{indexOf};
 ghost use Rattle.fields.specs.declared.Field.{Field};
 ghost use Rattle.fields.specs.Name.{hasName, fieldAt};
-ghost use Rattle.policies.specs.Texts.{printable, isText, isValue};
+ghost use Rattle.policies.specs.Texts.{printable, isText};
 ghost use Rattle.policies.specs.declared.Checked.{Checked};
 ghost use Rattle.policies.specs.Fields.{modeOf, ageOf, valueOf};
 ghost use Rattle.policies.specs.Policy.{modeNumber, refused, policyAnswer, patternsOf, someCovers, policyFor};
-ghost use Rattle.policies.specs.Reader.{textEnd, kindOf, digitOf, heldMode, heldAge, holdsMode, modeHeld, takeVersion, takeMode, takeAge, takeMx, takeField, takeLine, turnAt, checked, enough, accepted, answerOf, forHost};
+ghost use Rattle.policies.specs.Reader.{strippedValue, textEnd, kindOf, heldMode, heldAge, holdsMode, modeHeld, takeVersion, takeMode, takeAge, takeMx, takeField, takeLine, turnAt, checked, enough, accepted, answerOf, forHost};
 use fields::Field;
 
 mod utf8;
@@ -189,20 +189,6 @@ fn mode_in(mode: MaybeMode) -> Mode
     }
 }
 
-// The value of a digit, and 10 for any other byte.
-fn digit_of(b: u8) -> u64
-    ensures { λ r. ⌜ r ≡ digitOf b ⌝ }
-{
-    let digit = lists::is_within(b'0', b'9', b);
-    if !digit {
-        return 10;
-    }
-    if b < b'0' {
-        return 10;
-    }
-    (b - b'0') as u64
-}
-
 // The max_age that 1 to 10 digits write.
 fn age_of(v: &[u8]) -> MaybeAge
     ensures { λ r. ⌜ r ≡ heldAge (ageOf (now (v .entry))) ⌝ }
@@ -216,11 +202,14 @@ fn age_of(v: &[u8]) -> MaybeAge
     let mut age: u64 = 0;
     let mut i = 0;
     while i < v.len() {
-        let d = digit_of(v[i]);
-        if 9 < d {
+        let b = v[i];
+        if b < b'0' {
             return MaybeAge::Nothing;
         }
-        age = age * 10 + d;
+        if b'9' < b {
+            return MaybeAge::Nothing;
+        }
+        age = age * 10 + (b - b'0') as u64;
         i += 1;
     }
     MaybeAge::Is(age)
@@ -329,18 +318,12 @@ fn value_of(line: &[u8], colon: usize) -> &[u8]
     &rest[0..to]
 }
 
-// Whether v is a value. Where its bytes are known to be a text, only its ends are looked at.
+// Whether v, which has no blank at either end, is a value. Where its bytes are known to be a text, only its length is looked at.
 fn is_value(v: &[u8], known: bool) -> bool
     requires { ⌜ (known ≡ true → isText (now v) ≡ true) ⌝ }
-    ensures { λ r. ⌜ r ≡ isValue (now (v .entry)) ⌝ }
+    ensures { λ r. ⌜ r ≡ strippedValue (now (v .entry)) ⌝ }
 {
     if v.len() < 1 {
-        return false;
-    }
-    if v[0] == b' ' {
-        return false;
-    }
-    if v[v.len() - 1] == b' ' {
         return false;
     }
     if known {
@@ -350,14 +333,7 @@ fn is_value(v: &[u8], known: bool) -> bool
 }
 
 // What a line does whose name ends at `colon`; `known` says whether all bytes after the colon are printable.
-fn take_value(
-    seen: Seen,
-    line: &[u8],
-    colon: usize,
-    known: bool,
-    host: &[u8],
-    listed: bool,
-) -> Step
+fn take_value(seen: Seen, line: &[u8], colon: usize, known: bool, host: &[u8], listed: bool) -> Step
     requires { ⌜ (hasName 58 (now line) ≡ true) × (colon ≡ indexOf 58 (now line)) × (colon < length (now line)) × (known ≡ all printable (drop (colon + 1) (now line))) ⌝ }
     ensures { λ r. ⌜ r ≡ takeLine (now (host .entry)) listed seen (now (line .entry)) ⌝ }
 {
@@ -394,14 +370,7 @@ fn line_end(s: &[u8], from: usize) -> usize
 }
 
 // What the line does that begins at `at` and whose name ends at `colon`. Its other bytes are read once where they are printable.
-fn take_named(
-    seen: Seen,
-    s: &[u8],
-    at: usize,
-    colon: usize,
-    host: &[u8],
-    listed: bool,
-) -> Turn
+fn take_named(seen: Seen, s: &[u8], at: usize, colon: usize, host: &[u8], listed: bool) -> Turn
     requires { ⌜ (Field.Named colon ≡ fieldAt 58 (now s) at) × (at ≤ colon) × (colon < length (now s)) × (length (now s) ≤ 65536) ⌝ }
     ensures { λ r. ⌜ r ≡ turnAt (now (host .entry)) listed seen (now (s .entry)) at ⌝ }
 {

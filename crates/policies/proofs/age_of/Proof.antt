@@ -23,17 +23,20 @@ returns-2 c = search age-laws
 loop-holds : tie.Need-loop-holds Inv-loop μ-loop
 loop-holds c = search age-laws
 
-shared-slice-read-digit-of : tie.Need-shared-slice-read-digit-of Inv-loop μ-loop
-shared-slice-read-digit-of c = search age-laws
-
-digit-of-requires : tie.Need-digit-of-requires Inv-loop μ-loop
-digit-of-requires c κs = search age-laws
+shared-slice-read-b : tie.Need-shared-slice-read-b Inv-loop μ-loop
+shared-slice-read-b c = search age-laws
 
 returns-3 : tie.Need-returns-3 Inv-loop μ-loop
 returns-3 c = search age-laws
 
+returns-4 : tie.Need-returns-4 Inv-loop μ-loop
+returns-4 c = search age-laws
+
 mul-age : tie.Need-mul-age Inv-loop μ-loop
 mul-age c = search age-laws
+
+cast-age : tie.Need-cast-age Inv-loop μ-loop
+cast-age c = search age-laws
 
 add-age : tie.Need-add-age Inv-loop μ-loop
 add-age c = search age-laws
@@ -47,8 +50,8 @@ loop-less c = search age-laws
 loop-again : tie.Need-loop-again Inv-loop μ-loop
 loop-again c = search age-laws
 
-returns-4 : tie.Need-returns-4 Inv-loop μ-loop
-returns-4 c = search age-laws
+returns-5 : tie.Need-returns-5 Inv-loop μ-loop
+returns-5 c = search age-laws
 
 pub age-of-spec : {M : Type 1} → statement M
 age-of-spec =
@@ -59,12 +62,13 @@ age-of-spec =
     returns
     returns-2
     loop-holds
-    shared-slice-read-digit-of
-    digit-of-requires
+    shared-slice-read-b
     returns-3
+    returns-4
     mul-age
+    cast-age
     add-age
     add-i
     loop-less
     loop-again
-    returns-4)
+    returns-5)
