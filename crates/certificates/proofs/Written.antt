@@ -7,11 +7,12 @@ use mathlib.Core.Option.{Option, none, some}
 use native.Mathlib.Omega.{arith}
 use lib.Dec.{eqb, leb}
 use lib.ListN.{length, take, drop, length-append, length-drop, length-map}
-use lib.Seq.{take-at, drop-append-add, length-take-le}
+use lib.Seq.{take-at, drop-append-add}
 use borrow.Author.Tests.{le-leb, leb-true, eq-eqb, eqb-true}
 use Rattle.lists.specs.Bytes.{all, isBytes}
 use Rattle.lists.proofs.All.{all-true, all-map, all-more}
 use Rattle.lists.proofs.Bools.{and-left, and-right}
+use Rattle.lists.proofs.Laws.{part-length}
 use Rattle.numbers.specs.Numbers.{numbers, atMost, written}
 use Rattle.numbers.specs.Pieces.{cut, numbered, sumsTo, upTo}
 use Rattle.numbers.proofs.Pieces.{cut-count}
@@ -262,12 +263,9 @@ module _ (p : Presented) (h : keepsLimits p ≡ true) (s : all digestsSized (p .
   id-lengths-bytes = lengths-bytes 255 (omega arith) (p .dnsIds) (ids-fit (p .dnsIds) (p .commonName) names)
 
 -- The other way: what a call gives and is accepted is within the limits, with digests of their sizes.
-digest-size : (D : List ℕ) (from n : ℕ) → from + n ≤ length D → length (take n (drop from D)) ≡ n
-digest-size D from n h = length-take-le n (drop from D) (omega (arith, length-drop from D))
-
 sized-first : (P D Q x : List ℕ) → 192 ≤ length D → digestsSized (certificateAt P D Q 0 x) ≡ true
 unfolding certificateAt
-sized-first P D Q x l = rw (digest-size D 0 32 (omega arith), digest-size D 32 64 (omega arith), digest-size D 96 32 (omega arith), digest-size D 128 64 (omega arith))
+sized-first P D Q x l = rw (part-length D 0 32 (omega arith), part-length D 32 64 (omega arith), part-length D 96 32 (omega arith), part-length D 128 64 (omega arith))
 
 sized-placed : (xs : List (List ℕ)) (P D Q : List ℕ) → length D ≡ length xs * 192 → all digestsSized (numbered (certificateAt P D Q) 0 xs) ≡ true
 unfolding numbered all

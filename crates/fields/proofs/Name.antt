@@ -6,13 +6,13 @@ use mathlib.Core.List.{List, _∷_, _++_}
 use native.Mathlib.Omega.{arith}
 use lib.Dec.{eqb, ltb}
 use lib.ListN.{length, getD, take, drop, length-append, length-drop, take-append-drop}
-use lib.Seq.{length-take-le, getD-take, drop-drop, take-append-seam, drop-append-seam}
+use lib.Seq.{getD-take, drop-drop, take-append-seam, drop-append-seam}
 use borrow.Author.Needs.{needs}
 use borrow.Author.Tests.{not-true, not-false, lt-leb, le-leb, lt-ltb, le-ltb, ne-eqb, ltb-true}
 use Rattle.lists.specs.Bytes.{within, all}
 use Rattle.lists.specs.Split.{indexOf}
-use Rattle.lists.proofs.Laws.{drop-next}
-use Rattle.lists.proofs.Split.{indexOf-here, indexOf-next, index-after, index-there}
+use Rattle.lists.proofs.Laws.{drop-next, part-length}
+use Rattle.lists.proofs.Split.{indexOf-here, index-after, index-there, find-next}
 use Rattle.lists.proofs.All.{all-lacks}
 use Rattle.lists.proofs.Bools.{and-right, never}
 use Rattle.fields.specs.declared.Field.{Field}
@@ -32,9 +32,6 @@ name-next s end at i inv h e r g t = cc (before-next nameByte end s i h e)
 
 -- no byte `end` stands between `at` and i, and the bytes from i on decide about the name
 module _ (s : List ℕ) (end at i : ℕ) (w : at ≤ i) (place : at + indexOf end (drop at s) ≡ i + indexOf end (drop i s)) where
-  pub name-place : i < length s → (getD s i 0 ≡ end → ⊥) → at + indexOf end (drop at s) ≡ i + 1 + indexOf end (drop (i + 1) s)
-  name-place h e = omega (arith, indexOf-next s end i h e)
-
   pub name-none : length s ≤ i → Field.Malformed ≡ fieldAt end s at
   unfolding fieldAt hasName
   name-none h = rw (le-ltb (indexOf end (drop at s)) (length (drop at s)) (omega (arith, length-drop at s)))
@@ -47,7 +44,7 @@ module _ (s : List ℕ) (end at i : ℕ) (w : at ≤ i) (place : at + indexOf en
     hit-inside = lt-ltb (i - at) (length (drop at s)) (omega (arith, length-drop at s))
 
     hit-length : length (take (i - at) (drop at s)) ≡ i - at
-    hit-length = length-take-le (i - at) (drop at s) (omega (arith, length-drop at s))
+    hit-length = part-length s at (i - at) (omega arith)
 
     hit-first : 0 < i - at → getD (take (i - at) (drop at s)) 0 0 ≡ getD s at 0
     hit-first z =
@@ -82,7 +79,7 @@ module _ (s : List ℕ) (end at i : ℕ) (w : at ≤ i) (place : at + indexOf en
       let k : all nameByte (before end (drop at s)) ≡ false = cc (before-next nameByte end s i h e) in
       simp (k, and-false)
 
-pub ruleset name-laws = (name-place, name-none, name-empty, name-long, name-next, name-bad, name-named, name-first, not-true, not-false, needs)
+pub ruleset name-laws = (find-next, name-none, name-empty, name-long, name-next, name-bad, name-named, name-first, not-true, not-false, needs)
 
 -- `is_name_byte`: its ways out
 module _ (b : ℕ) (t : Bool) (g : t ≡ letterOrDigit b) where
@@ -168,27 +165,6 @@ module _ (end : ℕ) (s : List ℕ) (at : ℕ) (f : Field) (gave : f ≡ fieldAt
       go : (t : Bool) → Field.Malformed ≡ cond t (Field.Named (at + indexOf end (drop at s))) Field.Malformed → t ≡ false
       go true k = never cc
       go false k = refl
-
--- the same where the name begins the text
-module _ (end : ℕ) (s : List ℕ) (f : Field) (gave : f ≡ fieldAt end s 0) where
-  module _ (e : ℕ) (q : f ≡ Field.Named e) where
-    pub front-has : hasName end s ≡ true
-    front-has = named-has end s 0 f gave e q
-
-    pub front-place : e ≡ indexOf end s
-    front-place = omega (arith, named-place end s 0 f gave e q)
-
-    pub front-inside : e < length s
-    front-inside = named-inside end s 0 f gave e q
-
-    pub front-before : take e s ≡ before end s
-    front-before = rw front-place
-
-    pub front-rest : drop (e + 1) s ≡ after end s
-    front-rest = rw front-place
-
-  pub front-malformed : f ≡ Field.Malformed → hasName end s ≡ false
-  front-malformed q = malformed-has end s 0 f gave q
 
 -- a field's name, the byte that ends it, and anything after: the name and what follows it are read back, so a text has one name at most
 pub name-bytes : (n : List ℕ) → isFieldName n ≡ true → all nameByte n ≡ true

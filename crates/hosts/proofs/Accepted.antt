@@ -6,12 +6,12 @@ use mathlib.Core.List.{List, [], _∷_}
 use mathlib.Core.Option.{some}
 use native.Mathlib.Omega.{arith}
 use lib.Dec.{T, eqb, leb}
-use lib.ListN.{length, getD, take, drop, length-drop}
-use lib.Seq.{length-take-le}
+use lib.ListN.{length, getD, take, drop}
 use borrow.Author.Tests.{le-leb, leb-true, eq-eqb, eqb-true}
 use Rattle.lists.specs.Bytes.{all, within, isBytes}
 use Rattle.lists.proofs.Bools.{apart, and-left, and-right, and-intro, holds, by-true, or-right, neither-right, never}
 use Rattle.lists.proofs.All.{all-take, all-drop, all-at}
+use Rattle.lists.proofs.Laws.{part-length}
 use Rattle.numbers.specs.Numbers.{numbers}
 use Rattle.numbers.specs.Pieces.{cut, sumsTo}
 use Rattle.numbers.proofs.Pieces.{cut-count, cut-all, numbered-all}
@@ -167,7 +167,7 @@ answer-ok L.Failed lengths records h k = tt
 -- certificate facts
 
 digest-ok : (D : List ℕ) (at n : ℕ) → at + n ≤ length D → isBytes D ≡ true → sized n (take n (drop at D)) ≡ true
-digest-ok D at n h b = and-intro (eqb (length (take n (drop at D))) n) (isBytes (take n (drop at D))) (eq-eqb (length (take n (drop at D))) n (length-take-le n (drop at D) (omega (arith, length-drop at D)))) (all-take (λ (x : ℕ). leb x 255) n (drop at D) (all-drop (λ (x : ℕ). leb x 255) at D b))
+digest-ok D at n h b = and-intro (eqb (length (take n (drop at D))) n) (isBytes (take n (drop at D))) (eq-eqb (length (take n (drop at D))) n (part-length D at n h)) (all-take (λ (x : ℕ). leb x 255) n (drop at D) (all-drop (λ (x : ℕ). leb x 255) at D b))
 
 certificate-ok : (P D Q : List ℕ) (n j : ℕ) (x : List ℕ) → length D ≡ n * 192 → isBytes D ≡ true → j < n → isBytes x ≡ true → okCertificate (certificateAt P D Q j x) ≡ true
 unfolding okCertificate certificateAt

@@ -1,4 +1,4 @@
-pub mod Logic
+pub mod Pick
 pub mod Trees
 pub mod Values
 pub mod Forged

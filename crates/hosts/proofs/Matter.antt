@@ -7,7 +7,7 @@ use native.Mathlib.Omega.{arith}
 use lib.Dec.{eqb, leb}
 use lib.ListN.{length, drop, length-drop}
 use Rattle.lists.specs.Bytes.{all, any, isBytes}
-use Rattle.lists.proofs.Bools.{apart, and-right, and-intro, by-cond}
+use Rattle.lists.proofs.Bools.{apart, and-intro, by-cond}
 use Rattle.lists.proofs.Any.{any-none}
 use Rattle.lists.proofs.All.{all-drop}
 use Rattle.numbers.specs.Pieces.{upTo}
@@ -18,7 +18,8 @@ use Rattle.tlsa.specs.declared.Address.the-variants.{NoAliasSecure, NoAliasInse
 use Rattle.tlsa.specs.Address.{hostName, NamesOrVerdict, names, namesToTry}
 use Rattle.tlsa.specs.Address as A
 use Rattle.tlsa.specs.Record.{dataOf, usable}
-use Rattle.tlsa.specs.Answer.{Answer, secure, absent, failed, setFits, readOf, secureRecords}
+use Rattle.tlsa.specs.Answer.{Answer, secure, absent, failed, readOf, secureRecords}
+use Rattle.tlsa.proofs.Written.{set-each}
 use Rattle.certificates.specs.Facts.{Presented}
 use Rattle.certificates.specs.Checks.{references, namesReference, recordMatches, danePasses, showsHost}
 use Rattle.hosts.specs.Facts.{Base, Handshake, established, Place, first, second, tlsa, starttls, handshake, Facts, Full}
@@ -26,7 +27,7 @@ use Rattle.hosts.specs.Facts as F
 use Rattle.hosts.specs.Tree.{Rules, verdict, ask, verdictOf}
 use Rattle.hosts.specs.Rules.{needsMtaSts, isListed, mtaStsPasses, Taken, nothing, set, needsDane, needsAnything, takenPasses, lastVerdict, authenticate, shaken, connect, heed, seek, start, rules}
 use Rattle.hosts.specs.Arguments.{isAlias}
-use Rattle.hosts.proofs.Logic.{pick, pick-any, pick-passes, pick-all}
+use Rattle.hosts.proofs.Pick.{pick, pick-any, pick-passes, pick-all}
 use Rattle.hosts.proofs.Trees.{fill, before, Two, Differ, Matters}
 use Rattle.hosts.proofs.Values.{OkAnswer, OkPresented, Ok, setOf, set-ok, nobody, nobody-ok}
 use Rattle.hosts.proofs.Forged.{showing, showing-ok, showing-host, showing-matches}
@@ -76,10 +77,6 @@ spare-bytes : isBytes spare ≡ true
 unfolding all
 spare-bytes = refl
 
-fits-each : (rs : List (List ℕ)) → setFits rs ≡ true → all (upTo 4096) rs ≡ true
-unfolding setFits
-fits-each rs h = and-right (leb (length rs) 32) (all (upTo 4096) rs) h
-
 -- nothing matches where there is no certificate
 no-match : (named : Bool) (r : List ℕ) → (usable r && recordMatches named [] r) ≡ false
 unfolding recordMatches any
@@ -119,7 +116,7 @@ module _ (b : Base) where
     somebody-ok nothing k = showing-ok (0 ∷ []) (b .host) (b .host) (host-ok .0) (host-ok .0) (omega arith) refl (host-ok .1) (host-ok .1)
     somebody-ok (set domain rs) k =
         let r : List ℕ = pick usable spare rs in
-        let l : length r ≤ 4096 = upTo-true 4096 r (pick-all usable (upTo 4096) spare rs spare-short (fits-each rs (k .1 .0))) in
+        let l : length r ≤ 4096 = upTo-true 4096 r (pick-all usable (upTo 4096) spare rs spare-short (set-each rs (k .1 .0))) in
         let m : isBytes r ≡ true = pick-all usable isBytes spare rs spare-bytes (k .1 .1) in
         showing-ok (drop 3 r) domain (b .host) (k .0 .0) (host-ok .0) (omega (arith, length-drop 3 r)) (all-drop (λ (x : ℕ). leb x 255) 3 r m) (k .0 .1) (host-ok .1)
 

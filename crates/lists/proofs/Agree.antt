@@ -1,7 +1,7 @@
 -- Two lists compared element by element with a test p: the laws, and the turn of a loop with its ends. Assumes nothing.
-use Prim.Native.Nat.{ℕ, _+_, _<_, _≤_}
-use mathlib.Core.Path.{_≡_, refl, sym}
-use mathlib.Core.Bool.{Bool, true, false, _&&_, and-false}
+use Prim.Native.Nat.{ℕ, suc, _+_, _<_, _≤_}
+use mathlib.Core.Path.{_≡_, refl, sym, ap}
+use mathlib.Core.Bool.{Bool, true, false, and-false}
 use mathlib.Core.List.{List, [], _∷_}
 use native.Mathlib.Omega.{arith}
 use lib.Dec.{eqb}
@@ -10,7 +10,7 @@ use borrow.Author.Needs.{needs}
 use borrow.Author.Tests.{not-true, not-false, eq-eqb, eqb-true}
 use Rattle.lists.specs.Bytes.{lowerOf}
 use Rattle.lists.specs.Equal.{agree, sameByte, sameLetter, sameBytes, sameText}
-use Rattle.lists.proofs.Bools.{never}
+use Rattle.lists.proofs.Bools.{never, and-left, and-right}
 use Rattle.lists.proofs.Laws.{drop-next}
 
 agree-apart : (p : ℕ → ℕ → Bool) (a b : List ℕ) → (length a ≡ length b → ⊥) → agree p a b ≡ false
@@ -72,14 +72,7 @@ unfolding agree sameByte
 same-bytes [] [] h = refl
 same-bytes [] (y ∷ b) h = never cc
 same-bytes (x ∷ a) [] h = never cc
-same-bytes (x ∷ a) (y ∷ b) h = go (same-bytes a b) (eqb x y) refl h
-  where
-    go : (sameBytes a b ≡ true → a ≡ b) → (t : Bool) → eqb x y ≡ t → (t && sameBytes a b) ≡ true → x ∷ a ≡ y ∷ b
-    go ih true e k =
-        let u : x ≡ y = omega (arith, eqb-true x y e) in
-        let v : a ≡ b = ih k in
-        cc
-    go ih false e k = never cc
+same-bytes (x ∷ a) (y ∷ b) h = cc (eqb-true x y (and-left (eqb x y) (sameBytes a b) h), same-bytes a b (and-right (eqb x y) (sameBytes a b) h))
 
 pub bytes-self : (a : List ℕ) → sameBytes a a ≡ true
 unfolding sameByte
@@ -96,8 +89,4 @@ unfolding agree
 agree-lengths p [] [] h = refl
 agree-lengths p [] (y ∷ b) h = never cc
 agree-lengths p (x ∷ a) [] h = never cc
-agree-lengths p (x ∷ a) (y ∷ b) h = go (agree-lengths p a b) (p x y) h
-  where
-    go : (agree p a b ≡ true → length a ≡ length b) → (t : Bool) → (t && agree p a b) ≡ true → length (x ∷ a) ≡ length (y ∷ b)
-    go ih true k = let e : length a ≡ length b = ih k in omega arith
-    go ih false k = never cc
+agree-lengths p (x ∷ a) (y ∷ b) h = ap suc (agree-lengths p a b (and-right (p x y) (agree p a b) h))

@@ -1,4 +1,4 @@
--- A loop that tests all piece of a list: from `start`, `find` gives the end of a piece, e, and r is what the test gave of it. Assumes nothing.
+-- A loop that tests every piece of a list: from `start`, `find` gives the end of a piece, e, and r is what the test gave of it. Assumes nothing.
 use Prim.Native.Nat.{ℕ, suc, _+_, _-_, _<_, _≤_}
 use mathlib.Core.Path.{_≡_}
 use mathlib.Core.Bool.{Bool, true, false}

@@ -10,7 +10,7 @@ use native.Mathlib.Omega.{arith}
 use borrow.Author.Tests.{lt-leb, le-leb, lt-ltb, le-ltb, eq-eqb, ne-eqb, leb-true, leb-false, ltb-true}
 use lib.Dec.{T, leb, ltb, leb→le, ltb→lt}
 use lib.ListN.{length, getD, take, drop, length-drop}
-use lib.Seq.{drop-cons, take-all, take-nil}
+use lib.Seq.{drop-cons, take-all, take-nil, length-take-le}
 use Rattle.lists.specs.Bytes.{within}
 use Rattle.lists.proofs.Bools.{and-left, and-right}
 
@@ -24,6 +24,10 @@ drop-next s i h = rw (add-one, drop-cons s i 0)
 -- `&s[a..]` is what is left of s at a
 pub take-rest : (s : List ℕ) (a : ℕ) → take (length s - a) (drop a s) ≡ drop a s
 take-rest s a = take-all (length s - a) (drop a s) (omega (arith, length-drop a s))
+
+-- a part inside a list has the length that is asked for
+pub part-length : (s : List ℕ) (a n : ℕ) → a + n ≤ length s → length (take n (drop a s)) ≡ n
+part-length s a n h = length-take-le n (drop a s) (omega (arith, length-drop a s))
 
 -- what is left of the front of a list is the front of what is left
 pub drop-take : (n m : ℕ) (u : List ℕ) → drop n (take m u) ≡ take (m - n) (drop n u)

@@ -10,7 +10,7 @@ use lib.Dec.{eqb}
 use lib.ListN.{length, getD, drop, take, drop-of-length-le, take-append-drop}
 use Rattle.lists.specs.Bytes.{all}
 use Rattle.lists.specs.Split.{indexOf, split, toFirst, lacks, join}
-use Rattle.lists.proofs.Bools.{never, and-both}
+use Rattle.lists.proofs.Bools.{never, and-both, by-cond}
 use Rattle.lists.proofs.Laws.{drop-next}
 
 pub indexOf-here : (s : List ℕ) (b i : ℕ) → i < length s → getD s i 0 ≡ b → indexOf b (drop i s) ≡ 0
@@ -67,15 +67,15 @@ split-first b (x ∷ s) h = go (split-first b s) (eqb x b) h
     go ih false h = rw (ih (omega arith))
 
 -- a list has a piece at least
+pub toFirst-some : (x : ℕ) (ps : List (List ℕ)) → 0 < length (toFirst x ps)
+unfolding toFirst
+toFirst-some x [] = omega arith
+toFirst-some x (p ∷ ps) = omega arith
+
 split-some : (b : ℕ) (s : List ℕ) → 0 < length (split b s)
-unfolding split toFirst
+unfolding split
 split-some b [] = omega arith
-split-some b (x ∷ s) = go (split b s) (eqb x b)
-  where
-    go : (ps : List (List ℕ)) (t : Bool) → 0 < length (cond t ([] ∷ ps) (toFirst x ps))
-    go ps true = omega arith
-    go [] false = omega arith
-    go (p ∷ ps) false = omega arith
+split-some b (x ∷ s) = by-cond (λ (ps : List (List ℕ)). 0 < length ps) (eqb x b) (λ e. omega arith) (λ e. toFirst-some x (split b s))
 
 join-first : (b x : ℕ) (ps : List (List ℕ)) → join b (toFirst x ps) ≡ x ∷ join b ps
 unfolding join toFirst

@@ -26,14 +26,9 @@ unfolding agree sameLetter
 same-lowered [] [] h = refl
 same-lowered [] (y ∷ b) h = never cc
 same-lowered (x ∷ a) [] h = never cc
-same-lowered (x ∷ a) (y ∷ b) h = go (same-lowered a b) (eqb (lowerOf x) (lowerOf y)) refl h
-  where
-    go : (sameText a b ≡ true → lowered a ≡ lowered b) → (t : Bool) → eqb (lowerOf x) (lowerOf y) ≡ t → (t && sameText a b) ≡ true → lowered (x ∷ a) ≡ lowered (y ∷ b)
-    go ih true e k =
-        let u : lowerOf x ≡ lowerOf y = eqb-true (lowerOf x) (lowerOf y) e in
-        let v : lowered a ≡ lowered b = ih k in
-        cc
-    go ih false e k = never cc
+same-lowered (x ∷ a) (y ∷ b) h =
+    let e = eqb (lowerOf x) (lowerOf y) in
+    cc (eqb-true (lowerOf x) (lowerOf y) (and-left e (sameText a b) h), same-lowered a b (and-right e (sameText a b) h))
 
 -- a test that holds equally of a capital and its small letter does not see case. A capital is between the signs and the small letters, so its small letter is of
 -- a label as well, and no hyphen or dot

@@ -13,6 +13,7 @@ use borrow.Author.Tests.{lt-ltb, le-ltb}
 use Rattle.lists.specs.Split.{indexOf, toFirst}
 use Rattle.lists.proofs.Split.{indexOf-le}
 use Rattle.lists.proofs.Laws.{ltb-suc, ltb-drop}
+use Rattle.lists.proofs.Every.{found-within}
 use Rattle.policies.specs.Lines.{lines, lineStart}
 use Rattle.policies.specs.Reader.{textEnd, lineEnd, lineAt}
 
@@ -105,10 +106,7 @@ module _ (s : List ℕ) (at e t : ℕ) (f : e ≡ at + indexOf 10 (drop at s)) (
       cc (drop-drop (suc (indexOf 10 (drop at s))) at s)
 
 -- `line_end`
-pub found-line : (s : List ℕ) (at e : ℕ) → e ≡ at + indexOf 10 (drop at s) → at ≤ length s → e ≤ length s
-found-line s at e f h = omega (arith, indexOf-le 10 (drop at s), length-drop at s)
-
-pub ruleset end-laws = (found-line, needs)
+pub ruleset end-laws = (found-within, needs)
 
 -- the line at a place, the next one, and where it begins
 module _ (s : List ℕ) (at : ℕ) where
@@ -122,7 +120,7 @@ module _ (s : List ℕ) (at : ℕ) where
 
   pub next-within : at < length s → lineEnd s at ≤ length s
   unfolding lineEnd
-  next-within h = found-line s at (at + indexOf 10 (drop at s)) refl (omega arith)
+  next-within h = found-within 10 s at (at + indexOf 10 (drop at s)) refl (omega arith)
 
   pub next-start : (n : ℕ) → at ≡ lineStart s n → lineEnd s at + 1 ≡ lineStart s (n + 1)
   unfolding lineStart lineEnd

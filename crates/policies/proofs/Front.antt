@@ -13,7 +13,7 @@ use borrow.Author.Tests.{lt-ltb, le-ltb, ltb-true, ltb-false, le-leb, lt-leb, le
 use Rattle.lists.specs.Bytes.{all}
 use Rattle.lists.specs.Span.{spanOf}
 use Rattle.lists.specs.Split.{indexOf, lacks}
-use Rattle.lists.proofs.Laws.{drop-next, drop-take}
+use Rattle.lists.proofs.Laws.{drop-next, drop-take, part-length}
 use Rattle.lists.proofs.Span.{span-within, span-reaches, span-index}
 use Rattle.lists.proofs.Split.{index-there, index-append, index-beyond, index-lacks, index-take}
 use Rattle.lists.proofs.Bools.{and-both, never}
@@ -190,7 +190,7 @@ module _ (s : List ℕ) (at colon : ℕ) (named : Field.Named colon ≡ fieldAt 
         line-known w =
             let u : List ℕ = drop (colon + 1) s in
             let high : t ≤ length s = named-end w in
-            let low : colon + 1 ≤ t = omega (arith, line-inside, length-take-le (t - at) (drop at s) (omega (arith, length-drop at s))) in
+            let low : colon + 1 ≤ t = omega (arith, line-inside, part-length s at (t - at) (omega arith)) in
             let there : drop (colon - at + 1) (take (t - at) (drop at s)) ≡ take (t - (colon + 1)) u = after-colon low w in
             rw there (go (leb (t - (colon + 1)) (spanOf printable u)) refl low ∙ span-reaches printable u (t - (colon + 1)) (omega (arith, length-drop (colon + 1) s)))
           where

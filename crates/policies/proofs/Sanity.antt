@@ -14,6 +14,7 @@ use Rattle.lists.specs.Equal.{sameBytes}
 use Rattle.lists.specs.Split.{toFirst, lacks}
 use Rattle.lists.specs.Text.{text}
 use Rattle.lists.proofs.Bools.{and-both, never}
+use Rattle.lists.proofs.Split.{toFirst-some}
 use Rattle.clock.specs.Clock.{longest}
 use Rattle.clock.proofs.Laws.{capped-most}
 use Rattle.policies.specs.declared.Mode.{Mode}
@@ -119,25 +120,20 @@ answer-exactly s = go (ltb longestBody (length s)) (bodyFault s) (leb 1 (length 
     go false (some f) false h = refl
 
 -- a body has a line exactly where it has a byte
-first-some : (x : ℕ) (ls : List (List ℕ)) → 1 ≤ length (toFirst x ls)
-unfolding toFirst
-first-some x [] = omega arith
-first-some x (l ∷ ls) = omega arith
-
 lines-there : (x : ℕ) (s : List ℕ) → 1 ≤ length (lines (x ∷ s))
 unfolding lines
 lines-there x [] = go (eqb x LF) (eqb x CR)
   where
     go : (t u : Bool) → 1 ≤ length (cond t ([] ∷ []) (cond (u && false) [] (toFirst x [])))
     go true u = omega arith
-    go false true = first-some x []
-    go false false = first-some x []
+    go false true = toFirst-some x []
+    go false false = toFirst-some x []
 lines-there x (y ∷ s) = go (lines-there y s) (eqb x LF) (eqb x CR && eqb y LF)
   where
     go : 1 ≤ length (lines (y ∷ s)) → (t u : Bool) → 1 ≤ length (cond t ([] ∷ lines (y ∷ s)) (cond u (lines (y ∷ s)) (toFirst x (lines (y ∷ s)))))
     go ih true u = omega arith
     go ih false true = ih
-    go ih false false = first-some x (lines (y ∷ s))
+    go ih false false = toFirst-some x (lines (y ∷ s))
 
 lines-some : (s : List ℕ) → leb 1 (length s) ≡ leb 1 (length (lines s))
 unfolding lines

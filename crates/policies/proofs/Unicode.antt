@@ -10,19 +10,16 @@ use native.Mathlib.Omega.{arith}
 use lib.Dec.{eqb, leb, ltb}
 use borrow.Author.Tests.{le-leb, eq-eqb, ltb-true, ltb-false, eqb-true}
 use Rattle.lists.specs.Bytes.{within, all}
-use Rattle.lists.proofs.Bools.{and-both}
+use Rattle.lists.proofs.Bools.{and-both, or-elim}
 use Rattle.lists.proofs.Laws.{within-true}
 use Rattle.policies.specs.Texts.{utf8Tail, utf8Two, utf8Three, utf8Four, printable, isText}
 
 -- where one of some tests holds
 one-of-three : (x y z : Bool) (P : Type 0) → (x ≡ true → P) → (y ≡ true → P) → (z ≡ true → P) → (x || y || z) ≡ true → P
-one-of-three true y z P f g i h = f refl
-one-of-three false true z P f g i h = g refl
-one-of-three false false z P f g i h = i h
+one-of-three x y z P f g i = or-elim (x || y) z (or-elim x y f g) i
 
 one-of-four : (w x y z : Bool) (P : Type 0) → (w ≡ true → P) → (x ≡ true → P) → (y ≡ true → P) → (z ≡ true → P) → (w || x || y || z) ≡ true → P
-one-of-four true x y z P f g i j h = f refl
-one-of-four false x y z P f g i j h = one-of-three x y z P g i j h
+one-of-four w x y z P f g i j = or-elim (w || x || y) z (one-of-three w x y P f g i) j
 
 tail-between : (b : ℕ) → utf8Tail b ≡ true → (0x80 ≤ b) × (b ≤ 0xBF)
 unfolding utf8Tail

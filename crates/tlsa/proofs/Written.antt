@@ -15,16 +15,16 @@ use Rattle.tlsa.specs.declared.Lookup.{Lookup}
 
 -- A set within the limits is read back, and its lists keep the limits of an answer.
 module _ (set : List (List ℕ)) (h : setFits set ≡ true) where
-  sized : all (upTo 4096) set ≡ true
+  pub set-each : all (upTo 4096) set ≡ true
   unfolding setFits
-  sized = and-right (leb (length set) 32) (all (upTo 4096) set) h
+  set-each = and-right (leb (length set) 32) (all (upTo 4096) set) h
 
   pub set-lengths-bytes : isBytes (lengthsOf set) ≡ true
-  set-lengths-bytes = lengths-bytes 4096 (omega arith) set sized
+  set-lengths-bytes = lengths-bytes 4096 (omega arith) set set-each
 
   pub set-back : recordsOf (lengthsOf set) (flatten set) ≡ set
-  set-back = pieces-back 4096 (omega arith) set sized
+  set-back = pieces-back 4096 (omega arith) set set-each
 
   pub set-accepted : answerFits Lookup.Secure (lengthsOf set) (flatten set) ≡ true
   unfolding answerFits
-  set-accepted = rw (pieces-sum 4096 (omega arith) set sized, set-back) h
+  set-accepted = rw (pieces-sum 4096 (omega arith) set set-each, set-back) h

@@ -7,7 +7,8 @@ use Rattle.lists.specs.Bytes.{all}
 use Rattle.fields.specs.Name.{before, nameByte}
 use borrow.Author.Needs.{needs}
 use borrow.Author.Tests.{not-false}
-use Rattle.fields.proofs.Name.{name-laws, name-place, name-next}
+use Rattle.lists.proofs.Split.{find-next}
+use Rattle.fields.proofs.Name.{name-laws, name-next}
 use Rattle.fields.proofs.name_end.Statement.{statement}
 use Rattle.fields.proofs.name_end.Tie as tie
 
@@ -63,7 +64,7 @@ loop-less c = search name-laws
 loop-again : tie.Need-loop-again Inv-loop μ-loop
 loop-again c =
     let head = c .before .before .before .before .before .before in
-    (search needs, search name-place, search (name-next _ _ (head .before .before .args .at) (head .loop .i) (head .loop .inv .2), not-false))
+    (search needs, search find-next, search (name-next _ _ (head .before .before .args .at) (head .loop .i) (head .loop .inv .2), not-false))
 
 returns-6 : tie.Need-returns-6 Inv-loop μ-loop
 returns-6 c = search name-laws
