@@ -1,10 +1,7 @@
 -- What each exported call answers, over its arguments as C passes them.
 use Prim.Native.Nat.{ℕ}
-use mathlib.Core.Bool.{Bool}
 use mathlib.Core.List.{List}
 use mathlib.Core.Option.{Option, none, some}
-use lib.Dec.{leb}
-use Rattle.lists.specs.Bytes.{all}
 use Rattle.messages.specs.declared.MessageAnswer.{MessageAnswer}
 use Rattle.messages.specs.declared.MxLookup.{MxLookup}
 use Rattle.messages.specs.Hosts.{noHost, nextHost}
@@ -13,10 +10,6 @@ use Rattle.tweedstork.specs.Codes.{mxLookupOf}
 -- tweedstork_version: major * 10000 + minor * 100 + patch, as in the header
 abbrev pub version : ℕ
 version = 10000
-
--- a slice of bytes, each below 256
-abbrev pub isBytes : List ℕ → Bool
-isBytes s = all (λ (b : ℕ). leb b 255) s
 
 -- document 01, "Answer numbers": an input code outside its named choices is 67, before all others
 unfoldable pub lookedUp : Option MxLookup → List ℕ → List ℕ → MessageAnswer

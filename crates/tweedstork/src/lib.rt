@@ -2,11 +2,12 @@
 ghost use mathlib.Core.Bool.{true};
 ghost use mathlib.Core.Path.{_≡_};
 ghost use lib.ListN.{length};
+ghost use Rattle.lists.specs.Bytes.{isBytes};
 ghost use Rattle.hosts.specs.Arguments.{argumentsOf};
 ghost use Rattle.hosts.specs.Demands.{Judged};
 ghost use Rattle.policies.specs.Policy.{policyAnswer};
 ghost use Rattle.txt.specs.Txt.{readTxt, wroteTxt};
-ghost use Rattle.tweedstork.specs.Calls.{isBytes, nextHostAnswer, version};
+ghost use Rattle.tweedstork.specs.Calls.{nextHostAnswer, version};
 use hosts::HostAnswer;
 use hosts::Numbers;
 use messages::MessageAnswer;

@@ -2,11 +2,11 @@
 -- of such arguments demands 2 and 3 are proved. Assumes nothing.
 use native.Mathlib.Omega.{arith}
 use borrow.Author.Needs.{needs}
+use Rattle.lists.specs.Bytes.{isBytes}
 use Rattle.lists.proofs.All.{all-cons, all-nil}
 use Rattle.hosts.proofs.Accepted.{isNumber}
 use Rattle.hosts.proofs.Judged.{judged}
 use Rattle.hosts.proofs.Passed.{number-below, is-passed}
-use Rattle.tweedstork.specs.Calls.{isBytes}
 use Rattle.tweedstork.proofs.tweedstork_judge_host.Statement.{statement}
 use Rattle.tweedstork.proofs.tweedstork_judge_host.Tie as tie
 
