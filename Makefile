@@ -1,6 +1,8 @@
 # make run    builds the library and shows it at work
 # make test   runs every test; its last line is rt's 'N passed, M failed'
 # make bench  measures against plain C and Rust; fails where a promise on speed is broken
+# make fuzz SECONDS=60
+#             fuzzes each call against the independent implementation
 # make install PREFIX=/usr/local
 #             header, archive, pkg-config file and man page
 # make clean  removes what the others made
@@ -13,11 +15,12 @@ WARNINGS = -std=c99 -Wall -Wextra -Wpedantic -Werror
 SANITIZERS = -fsanitize=address,undefined -fno-sanitize-recover=all
 
 PREFIX ?= /usr/local
+SECONDS ?= 60
 
 ARCHIVE = target/staticlib/libtweedstork.a
 OUT = target/c
 
-.PHONY: all run test bench install clean toolchain archive examples
+.PHONY: all run test bench fuzz install clean toolchain archive examples
 all: archive
 
 toolchain:
@@ -54,6 +57,10 @@ test: examples
 
 bench: archive
 	CC='$(CC)' bench/run target/staticlib $(OUT)/bench
+
+# libFuzzer: Debian's packages clang and libclang-rt-14-dev.
+fuzz: archive
+	fuzz/run target/staticlib $(OUT)/fuzz $(SECONDS)
 
 install: archive
 	@packaging/install $(ARCHIVE) $(PREFIX)

@@ -1,17 +1,17 @@
 -- Two lists compared element by element with a test p: the laws, and the turn of a loop with its ends. Assumes nothing.
-use Prim.Native.Nat.{ℕ, suc, _+_, _<_, _≤_}
-use mathlib.Core.Path.{_≡_, refl, sym, ap}
-use mathlib.Core.Bool.{Bool, true, false, and-false}
+use Prim.Native.Nat.{ℕ, suc, _+_, _-_, _<_, _≤_}
+use mathlib.Core.Path.{_≡_, refl, sym, ap, _∙_}
+use mathlib.Core.Bool.{Bool, true, false, cond, and-false}
 use mathlib.Core.List.{List, [], _∷_}
 use native.Mathlib.Omega.{arith}
-use lib.Dec.{eqb}
+use lib.Dec.{eqb, leb}
 use lib.ListN.{length, getD, drop, drop-of-length-le}
 use borrow.Author.Needs.{needs}
-use borrow.Author.Tests.{not-true, not-false, eq-eqb, eqb-true}
-use Rattle.lists.specs.Bytes.{lowerOf}
+use borrow.Author.Tests.{not-true, not-false, eq-eqb, ne-eqb, eqb-true, lt-leb}
+use Rattle.lists.specs.Bytes.{within, lowerOf}
 use Rattle.lists.specs.Equal.{agree, sameByte, sameLetter, sameBytes, sameText}
-use Rattle.lists.proofs.Bools.{never, and-left, and-right}
-use Rattle.lists.proofs.Laws.{drop-next}
+use Rattle.lists.proofs.Bools.{apart, never, and-left, and-right}
+use Rattle.lists.proofs.Laws.{drop-next, within-true}
 
 agree-apart : (p : ℕ → ℕ → Bool) (a b : List ℕ) → (length a ≡ length b → ⊥) → agree p a b ≡ false
 unfolding agree
@@ -48,17 +48,60 @@ module _ (p : ℕ → ℕ → Bool) (a b : List ℕ) (from i : ℕ) (inv : agree
 -- a function whose loop compares two slices: `search agree-laws` at each need
 pub ruleset agree-laws = (agree-length, agree-next-from, agree-differ-from, agree-end-from, not-true, not-false, needs)
 
--- `is_same_letter`: a and b are what `lower` gave
-pub letter-is : (a b x y : ℕ) → a ≡ lowerOf x → b ≡ lowerOf y → eqb a b ≡ sameLetter x y
-unfolding sameLetter
-letter-is a b x y e f = cc
-
 -- what is the same byte is the same letter
 pub letter-same : (x y : ℕ) → x ≡ y → true ≡ sameLetter x y
 unfolding sameLetter
 letter-same x y e = sym (eq-eqb (lowerOf x) (lowerOf y) cc)
 
-pub ruleset letter-laws = (letter-is, letter-same, needs)
+-- either way round
+letter-swap : (x y : ℕ) → sameLetter x y ≡ sameLetter y x
+unfolding sameLetter
+letter-swap x y = go (eqb (lowerOf x) (lowerOf y)) refl
+  where
+    go : (t : Bool) → eqb (lowerOf x) (lowerOf y) ≡ t → t ≡ eqb (lowerOf y) (lowerOf x)
+    go true e = sym (eq-eqb (lowerOf y) (lowerOf x) (sym (eqb-true (lowerOf x) (lowerOf y) e)))
+    go false e = sym (ne-eqb (lowerOf y) (lowerOf x) (λ k. apart (sym e ∙ eq-eqb (lowerOf x) (lowerOf y) (sym k))))
+
+-- the small letter, by whether b is a capital
+lower-cases : (b : ℕ) → (t : Bool) → within 65 90 b ≡ t → lowerOf b ≡ cond t (b + 32) b
+unfolding lowerOf
+lower-cases b t e = rw e
+
+-- `is_capital_of`: c is below y; r is what `is_within` gave
+module _ (c y : ℕ) (h : c < y) where
+  pub capital-apart : (y - c ≡ 32 → ⊥) → false ≡ sameLetter c y
+  unfolding sameLetter
+  capital-apart d = sym (ne-eqb (lowerOf c) (lowerOf y) (λ k. go (within 65 90 c) (within 65 90 y) refl refl k))
+    where
+      go : (t u : Bool) → within 65 90 c ≡ t → within 65 90 y ≡ u → lowerOf c ≡ lowerOf y → ⊥
+      go true true p q k = let e : c + 32 ≡ y + 32 = sym (lower-cases c true p) ∙ (k ∙ lower-cases y true q) in absurd (omega arith)
+      go true false p q k = let e : c + 32 ≡ y = sym (lower-cases c true p) ∙ (k ∙ lower-cases y false q) in d (omega arith)
+      go false true p q k = let e : c ≡ y + 32 = sym (lower-cases c false p) ∙ (k ∙ lower-cases y true q) in absurd (omega arith)
+      go false false p q k = let e : c ≡ y = sym (lower-cases c false p) ∙ (k ∙ lower-cases y false q) in absurd (omega arith)
+
+  pub capital-is : (r : Bool) → y - c ≡ 32 → r ≡ within 65 90 c → r ≡ sameLetter c y
+  unfolding sameLetter
+  capital-is r e g = go (within 65 90 c) refl g
+    where
+      far : within 65 90 c ≡ true → within 65 90 y ≡ false
+      far p = let k : (65 ≤ c) × (c ≤ 90) = within-true 65 90 c p in rw (lt-leb y 90 (omega arith)) (and-false (leb 65 y))
+
+      go : (t : Bool) → within 65 90 c ≡ t → r ≡ t → r ≡ eqb (lowerOf c) (lowerOf y)
+      go true p q = q ∙ sym (eq-eqb (lowerOf c) (lowerOf y) (lower-cases c true p ∙ (omega arith ∙ sym (lower-cases y false (far p)))))
+      go false p q = q ∙ sym (ne-eqb (lowerOf c) (lowerOf y) (λ k. other (within 65 90 y) refl k))
+        where
+          other : (u : Bool) → within 65 90 y ≡ u → lowerOf c ≡ lowerOf y → ⊥
+          other true w k = let z : c ≡ y + 32 = sym (lower-cases c false p) ∙ (k ∙ lower-cases y true w) in absurd (omega arith)
+          other false w k = let z : c ≡ y = sym (lower-cases c false p) ∙ (k ∙ lower-cases y false w) in absurd (omega arith)
+
+-- `is_same_letter`: r is what `is_capital_of` gave for the lower byte
+pub letter-above : (x y : ℕ) (r : Bool) → r ≡ sameLetter y x → r ≡ sameLetter x y
+letter-above x y r g = g ∙ letter-swap y x
+
+pub letter-far : (x y : ℕ) → (x ≡ y → ⊥) → y ≤ x → y < x
+letter-far x y d h = omega (arith, d)
+
+pub ruleset letter-laws = (letter-same, capital-apart, capital-is, letter-above, letter-far, needs)
 
 -- what agrees by a test that each element passes with itself: the list with itself
 pub agree-self : (p : ℕ → ℕ → Bool) → ((x : ℕ) → p x x ≡ true) → (a : List ℕ) → agree p a a ≡ true

@@ -10,9 +10,9 @@ use lib.ListN.{length, getD, take, drop, length-drop}
 use lib.Seq.{getD-drop, drop-drop}
 use borrow.Author.Needs.{needs}
 use borrow.Author.Tests.{not-true, not-false, eq-eqb, ne-eqb, eqb-true, le-leb, leb-true}
-use Rattle.lists.specs.Bytes.{all, lowerOf}
+use Rattle.lists.specs.Bytes.{all, isBytes}
 use Rattle.lists.specs.Equal.{agree, sameByte, sameLetter}
-use Rattle.lists.specs.Words.{isByte, numberOf, eightAt}
+use Rattle.lists.specs.Words.{numberOf, eightAt}
 use Rattle.lists.proofs.Agree.{agree-length, letter-same}
 use Rattle.lists.proofs.Bools.{apart, and-left, and-right}
 
@@ -34,12 +34,10 @@ eight-is s i h =
     let e : take 8 (drop i s) ≡ getD (drop i s) 0 0 ∷ getD (drop i s) 1 0 ∷ getD (drop i s) 2 0 ∷ getD (drop i s) 3 0 ∷ getD (drop i s) 4 0 ∷ getD (drop i s) 5 0 ∷ getD (drop i s) 6 0 ∷ getD (drop i s) 7 0 ∷ [] = front-eight (drop i s) l in
     simp (getD-drop, add-zero) at e
 
-byte-is : (b : ℕ) → b < 256 → isByte b ≡ true
-unfolding isByte
+byte-is : (b : ℕ) → b < 256 → leb b 255 ≡ true
 byte-is b h = le-leb b 255 (omega arith)
 
-byte-below : (b : ℕ) → isByte b ≡ true → b < 256
-unfolding isByte
+byte-below : (b : ℕ) → leb b 255 ≡ true → b < 256
 byte-below b h = let k : b ≤ 255 = leb-true b 255 h in omega arith
 
 -- `eight_at`: a to h are the bytes
@@ -47,7 +45,7 @@ pub eight-number : (s : List ℕ) (i : ℕ) (a b c d e f g h : ℕ) → i + 8 �
 unfolding numberOf
 eight-number s i a b c d e f g h l pa pb pc pd pe pf pg ph = rw (eight-is s i l, sym pa, sym pb, sym pc, sym pd, sym pe, sym pf, sym pg, sym ph) (omega arith)
 
-pub eight-bytes : (s : List ℕ) (i : ℕ) (a b c d e f g h : ℕ) → i + 8 ≤ length s → a ≡ getD s i 0 → b ≡ getD s (i + 1) 0 → c ≡ getD s (i + 2) 0 → d ≡ getD s (i + 3) 0 → e ≡ getD s (i + 4) 0 → f ≡ getD s (i + 5) 0 → g ≡ getD s (i + 6) 0 → h ≡ getD s (i + 7) 0 → a < 256 → b < 256 → c < 256 → d < 256 → e < 256 → f < 256 → g < 256 → h < 256 → all isByte (eightAt s i) ≡ true
+pub eight-bytes : (s : List ℕ) (i : ℕ) (a b c d e f g h : ℕ) → i + 8 ≤ length s → a ≡ getD s i 0 → b ≡ getD s (i + 1) 0 → c ≡ getD s (i + 2) 0 → d ≡ getD s (i + 3) 0 → e ≡ getD s (i + 4) 0 → f ≡ getD s (i + 5) 0 → g ≡ getD s (i + 6) 0 → h ≡ getD s (i + 7) 0 → a < 256 → b < 256 → c < 256 → d < 256 → e < 256 → f < 256 → g < 256 → h < 256 → isBytes (eightAt s i) ≡ true
 unfolding all
 eight-bytes s i a b c d e f g h l pa pb pc pd pe pf pg ph la lb lc ld le lf lg lh =
     rw (eight-is s i l, sym pa, sym pb, sym pc, sym pd, sym pe, sym pf, sym pg, sym ph, byte-is a la, byte-is b lb, byte-is c lc, byte-is d ld, byte-is e le, byte-is f lf, byte-is g lg, byte-is h lh) refl
@@ -65,15 +63,15 @@ two-bytes b d m n hb hd = go (eqb b d) (eqb m n) refl refl
     go false u p q = ne-eqb (b + 256 * m) (d + 256 * n) (λ e. let z : b ≡ d = omega arith in apart (sym p ∙ eq-eqb b d z))
 
 -- lists of bytes of one length are the same exactly where their numbers are
-pub numbers-same : (x y : List ℕ) → length x ≡ length y → all isByte x ≡ true → all isByte y ≡ true → eqb (numberOf x) (numberOf y) ≡ agree sameByte x y
+pub numbers-same : (x y : List ℕ) → length x ≡ length y → isBytes x ≡ true → isBytes y ≡ true → eqb (numberOf x) (numberOf y) ≡ agree sameByte x y
 unfolding all numberOf agree sameByte
 numbers-same [] [] l h k = refl
 numbers-same [] (d ∷ y) l h k = absurd (omega arith)
 numbers-same (b ∷ x) [] l h k = absurd (omega arith)
 numbers-same (b ∷ x) (d ∷ y) l h k =
-    let hb : b < 256 = byte-below b (and-left (isByte b) (all isByte x) h) in
-    let hd : d < 256 = byte-below d (and-left (isByte d) (all isByte y) k) in
-    let ih : eqb (numberOf x) (numberOf y) ≡ agree sameByte x y = numbers-same x y (omega arith) (and-right (isByte b) (all isByte x) h) (and-right (isByte d) (all isByte y) k) in
+    let hb : b < 256 = byte-below b (and-left (leb b 255) (isBytes x) h) in
+    let hd : d < 256 = byte-below d (and-left (leb d 255) (isBytes y) k) in
+    let ih : eqb (numberOf x) (numberOf y) ≡ agree sameByte x y = numbers-same x y (omega arith) (and-right (leb b 255) (isBytes x) h) (and-right (leb d 255) (isBytes y) k) in
     rw (two-bytes b d (numberOf x) (numberOf y) hb hd, ih) refl
 
 -- comparing is comparing the first n and then the rest
@@ -86,7 +84,7 @@ agree-cut p (suc n) (a ∷ x) [] = refl
 agree-cut p (suc n) (a ∷ x) (b ∷ y) = rw (agree-cut p n x y) (sym (and-assoc (p a b) (agree p (take n x) (take n y)) (agree p (drop n x) (drop n y))))
 
 -- `is_same_eight`: x and y are what `eight_at` gave
-pub eight-same : (a b : List ℕ) (i x y : ℕ) → i + 8 ≤ length a → i + 8 ≤ length b → x ≡ numberOf (eightAt a i) → all isByte (eightAt a i) ≡ true → y ≡ numberOf (eightAt b i) → all isByte (eightAt b i) ≡ true → eqb x y ≡ agree sameByte (eightAt a i) (eightAt b i)
+pub eight-same : (a b : List ℕ) (i x y : ℕ) → i + 8 ≤ length a → i + 8 ≤ length b → x ≡ numberOf (eightAt a i) → isBytes (eightAt a i) ≡ true → y ≡ numberOf (eightAt b i) → isBytes (eightAt b i) ≡ true → eqb x y ≡ agree sameByte (eightAt a i) (eightAt b i)
 eight-same a b i x y ka kb px ha py hb =
     let l : length (eightAt a i) ≡ length (eightAt b i) = rw (eight-is a i ka, eight-is b i kb) refl in
     rw (px, py) (numbers-same (eightAt a i) (eightAt b i) l ha hb)

@@ -1,13 +1,7 @@
 -- Bytes as one number: how the code compares eight at a time.
 use Prim.Native.Nat.{ℕ, _+_, _*_}
-use mathlib.Core.Bool.{Bool}
 use mathlib.Core.List.{List, [], _∷_}
-use lib.Dec.{leb}
 use lib.ListN.{take, drop}
-
--- a byte
-unfoldable pub isByte : ℕ → Bool
-isByte b = leb b 255
 
 -- the number that bytes write, the lowest first
 unfoldable pub numberOf : List ℕ → ℕ

@@ -4,10 +4,10 @@ ghost use mathlib.Core.Bool.{cond, true};
 ghost use Prim.Native.Nat.{_+_, _<_, _≤_};
 ghost use lib.Dec.{leb};
 ghost use lib.ListN.{length, drop};
-ghost use Rattle.lists.specs.Bytes.{within, all, lowerOf};
+ghost use Rattle.lists.specs.Bytes.{within, isBytes};
 ghost use Rattle.lists.specs.Equal.{sameByte, sameLetter, sameBytes, sameText};
 ghost use Rattle.lists.specs.Split.{indexOf};
-ghost use Rattle.lists.specs.Words.{isByte, numberOf, eightAt};
+ghost use Rattle.lists.specs.Words.{numberOf, eightAt};
 ghost use Rattle.lists.specs.Write.{wroteFront};
 
 // Whether b stands between lo and hi, both included.
@@ -23,24 +23,22 @@ pub fn is_within(lo: u8, hi: u8, b: u8) -> bool
     true
 }
 
-// The small letter of an ASCII capital, and any other byte as it is.
-pub fn lower(b: u8) -> u8
-    ensures { λ r. ⌜ r ≡ lowerOf b ⌝ }
-{
-    if b < b'A' {
-        return b;
-    }
-    if b'Z' < b {
-        return b;
-    }
-    b + 32
-}
-
 // Whether x and y are the same byte.
 pub fn is_same_byte(x: u8, y: u8) -> bool
     ensures { λ r. ⌜ r ≡ sameByte x y ⌝ }
 {
     x == y
+}
+
+// Whether c is an ASCII capital and y its small letter.
+fn is_capital_of(c: u8, y: u8) -> bool
+    requires { ⌜ c < y ⌝ }
+    ensures { λ r. ⌜ r ≡ sameLetter c y ⌝ }
+{
+    if y - c != 32 {
+        return false;
+    }
+    is_within(b'A', b'Z', c)
 }
 
 // Whether x and y are the same byte, where an ASCII capital and its small letter count as one.
@@ -50,9 +48,10 @@ pub fn is_same_letter(x: u8, y: u8) -> bool
     if x == y {
         return true;
     }
-    let a = lower(x);
-    let b = lower(y);
-    a == b
+    if x < y {
+        return is_capital_of(x, y);
+    }
+    is_capital_of(y, x)
 }
 
 // A byte as a wide number.
@@ -65,7 +64,7 @@ pub fn wide(x: u8) -> u64
 // The eight bytes of s from i on as one number, the lowest first.
 fn eight_at(s: &[u8], i: usize) -> u64
     requires { ⌜ i + 8 ≤ length (now s) ⌝ }
-    ensures { λ r. ⌜ (r ≡ numberOf (eightAt (now (s .entry)) i)) × (all isByte (eightAt (now (s .entry)) i) ≡ true) ⌝ }
+    ensures { λ r. ⌜ (r ≡ numberOf (eightAt (now (s .entry)) i)) × (isBytes (eightAt (now (s .entry)) i) ≡ true) ⌝ }
 {
     let a = wide(s[i]);
     let b = wide(s[i + 1]);

@@ -139,7 +139,7 @@ fn walk_hosts(preferences: [u16; 32], verdicts: [u8; 32], count: usize) -> Messa
     let mut k = count;
     while 0 < k {
         let j = k - 1;
-        let v = numbers::wide(verdicts[j]);
+        let v = lists::wide(verdicts[j]);
         let right = is_host_verdict(v);
         if !right {
             return no_host(63);

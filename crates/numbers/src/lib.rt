@@ -9,13 +9,6 @@ ghost use Rattle.lists.specs.Bytes.{all};
 ghost use Rattle.numbers.specs.Numbers.{numbers, isWhole, atMost};
 ghost use Rattle.numbers.specs.Pieces.{cut, sumsTo, endOf};
 
-// A byte as a wide number.
-pub fn wide(x: u8) -> u64
-    ensures { λ r. ⌜ (r ≡ x) × (r < 256) ⌝ }
-{
-    x as u64
-}
-
 // Whether the list has no left-over bytes.
 pub fn is_whole(list: &[u8]) -> bool
     ensures { λ r. ⌜ r ≡ isWhole (now (list .entry)) ⌝ }
@@ -38,10 +31,10 @@ pub fn number(list: &[u8], k: usize) -> u64
         return 0;
     }
     let i = k * 4;
-    let a = wide(list[i]);
-    let b = wide(list[i + 1]);
-    let c = wide(list[i + 2]);
-    let d = wide(list[i + 3]);
+    let a = lists::wide(list[i]);
+    let b = lists::wide(list[i + 1]);
+    let c = lists::wide(list[i + 2]);
+    let d = lists::wide(list[i + 3]);
     ((a * 256 + b) * 256 + c) * 256 + d
 }
 

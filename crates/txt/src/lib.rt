@@ -47,7 +47,7 @@ fn is_rdata(s: &[u8]) -> bool
     }
     let mut i = 0;
     while i < s.len() {
-        let n = numbers::wide(s[i]) as usize;
+        let n = lists::wide(s[i]) as usize;
         if s.len() - (i + 1) < n {
             return false;
         }
@@ -96,7 +96,7 @@ fn is_candidate_in_parts(s: &[u8]) -> bool
     let mut k = 0;
     while i < s.len() {
         if left == 0 {
-            left = numbers::wide(s[i]);
+            left = lists::wide(s[i]);
             i += 1;
         } else {
             if s[i] != TAG[k] {
@@ -211,7 +211,7 @@ fn string_end(s: &[u8], i: usize) -> usize
     requires { ⌜ i < length (now s) ⌝ }
     ensures { λ r. ⌜ (r ≡ endOf (length (now (s .entry))) (i + 1) (getD (now (s .entry)) i 0)) × (i < r) × (r ≤ length (now (s .entry))) ⌝ }
 {
-    let n = numbers::wide(s[i]);
+    let n = lists::wide(s[i]);
     numbers::end_of(s.len(), i + 1, n)
 }
 

@@ -9,7 +9,6 @@ use Rattle.messages.specs.Search.{deciderOf}
 use Rattle.messages.proofs.Finds.{walk-laws}
 use Rattle.messages.proofs.walk_hosts.Statement.{statement}
 use Rattle.messages.proofs.walk_hosts.Tie as tie
-use Rattle.numbers.proofs.wide.Reads as wide-reads′
 
 abbrev Inv-loop : tie.InvT-loop
 Inv-loop count preferences verdicts decider₀ k₀ decider k = (k ≤ count) × (decider ≡ deciderOf (hostsFrom k (drop k (take count preferences)) (drop k (take count verdicts)))) × (all isPreference (drop k (take count preferences)) ≡ true) × (all isHostVerdict (drop k (take count verdicts)) ≡ true)

@@ -1,0 +1,213 @@
+/*
+ * What every fuzz target does with an input: decode it, ask the independent implementation and the library, and compare every
+ * field of the answer and all lent memory. At a difference it prints the arguments and both answers and aborts.
+ *
+ * The library's archive is compiled without sanitizers, so it is asked three times: with copies on the heap of just their
+ * size (the address sanitizer sees what memcpy does there, and empty slices are NULL), with copies that end at a page which
+ * can't be touched, and with copies that begin after one. On the open side stand canary bytes.
+ *
+ * FUZZ_SAY=1 in the environment prints the arguments and the answer of each input.
+ */
+#define _DEFAULT_SOURCE /* MAP_ANONYMOUS */
+#include "target.h"
+
+#include <inttypes.h>
+#include <stdio.h>
+#include <stdlib.h>
+#include <string.h>
+#include <sys/mman.h>
+
+int LLVMFuzzerInitialize(int *argc, char ***argv);
+int LLVMFuzzerTestOneInput(const uint8_t *data, size_t size);
+
+enum { PAGE = 4096, CANARIES = 64, CANARY = 0xc5, ROOM = LONGEST + PAGE };
+
+static const char *const places[] = {"on the heap", "before a guard page", "after a guard page"};
+enum { HEAP, BEFORE_GUARD, AFTER_GUARD, PLACES };
+
+static uint8_t decoded[MOST_SLICES][LONGEST];
+static uint8_t *rooms[MOST_SLICES]; /* ROOM bytes each, between two guard pages */
+static uint64_t answered[256];      /* how often each answer number came */
+static int say;
+
+static size_t length_of(const char *const *names)
+{
+    size_t length = 0;
+    while (names[length] != NULL)
+        length++;
+    return length;
+}
+
+static int is_output(size_t slice)
+{
+    return target.output != NULL && strcmp(target.slices[slice], target.output) == 0;
+}
+
+/* ------------------------------------------------------------------------------------------------------------- reports */
+
+static void print_fields(const char *whose, const uint64_t *fields)
+{
+    fprintf(stderr, "  %s:", whose);
+    for (size_t i = 0; target.fields[i] != NULL; i++)
+        fprintf(stderr, " %s %" PRIu64, target.fields[i], fields[i]);
+    fprintf(stderr, " (%s)\n", tweedstork_answer_words(fields[0]));
+}
+
+static void print_slice(const char *name, const struct bytes *slice)
+{
+    enum { SHOWN = 2000 };
+    fprintf(stderr, "  %s, %zu bytes: ", name, slice->length);
+    for (size_t i = 0; i < slice->length && i < SHOWN; i++) {
+        uint8_t byte = slice->at[i];
+        if (byte >= ' ' && byte <= '~' && byte != '\\')
+            fputc(byte, stderr);
+        else
+            fprintf(stderr, "\\x%02x", byte);
+    }
+    fprintf(stderr, "%s\n", slice->length > SHOWN ? " and so on" : "");
+}
+
+static void print_call(const struct call *call)
+{
+    fprintf(stderr, "%s:\n", target.name);
+    for (size_t i = 0; target.numbers[i] != NULL; i++)
+        fprintf(stderr, "  %s %" PRIu64 "\n", target.numbers[i], call->numbers[i]);
+    for (size_t i = 0; target.slices[i] != NULL; i++)
+        print_slice(target.slices[i], &call->slices[i]);
+}
+
+/* Ends the run; the fuzzer keeps the input. */
+static void fail(const struct call *call, const char *which, const char *what, int place)
+{
+    if (!say)
+        print_call(call);
+    fprintf(stderr, "DIFFERENCE: %s: %s %s (slices %s)\n", target.name, which, what, places[place]);
+    abort();
+}
+
+static void print_answers(void)
+{
+    for (const uint8_t *number = target.answers; *number != 0; number++)
+        fprintf(stderr, "answer %u: %" PRIu64 "\n", *number, answered[*number]);
+}
+
+/* ----------------------------------------------------------------------------------------------------------- lent memory */
+
+static void make_rooms(void)
+{
+    for (size_t i = 0; target.slices[i] != NULL; i++) {
+        uint8_t *at = mmap(NULL, ROOM + 2 * PAGE, PROT_NONE, MAP_PRIVATE | MAP_ANONYMOUS, -1, 0);
+        if (at == MAP_FAILED || mprotect(at + PAGE, ROOM, PROT_READ | PROT_WRITE) != 0) {
+            perror("fuzz: no memory with guard pages");
+            exit(2);
+        }
+        rooms[i] = at + PAGE;
+    }
+}
+
+/* Where the canaries of a slice in its room begin. */
+static uint8_t *canaries_of(const struct bytes *slice, int place)
+{
+    return place == BEFORE_GUARD ? slice->at - CANARIES : slice->at + slice->length;
+}
+
+static struct bytes lend(size_t i, const struct bytes *slice, int place)
+{
+    struct bytes lent = {NULL, slice->length};
+    if (place != HEAP) {
+        lent.at = place == BEFORE_GUARD ? rooms[i] + ROOM - slice->length : rooms[i];
+        memset(canaries_of(&lent, place), CANARY, CANARIES);
+    } else if (slice->length > 0 && (lent.at = malloc(slice->length)) == NULL) {
+        perror("fuzz");
+        exit(2);
+    }
+    if (slice->length > 0)
+        memcpy(lent.at, slice->at, slice->length);
+    return lent;
+}
+
+static int same(const struct bytes *a, const struct bytes *b)
+{
+    return a->length == 0 || memcmp(a->at, b->at, a->length) == 0;
+}
+
+static int canaries_stand(const struct bytes *lent, int place)
+{
+    const uint8_t *at = canaries_of(lent, place);
+    for (size_t i = 0; i < CANARIES; i++)
+        if (at[i] != CANARY)
+            return 0;
+    return 1;
+}
+
+/* ------------------------------------------------------------------------------------------------------------ the calls */
+
+/* Every slice as it has to be after the call: an input as it was, the output as the independent implementation left it. */
+static void check_slices(const struct call *call, const struct call *lent, const struct bytes *output, int place)
+{
+    for (size_t i = 0; target.slices[i] != NULL; i++) {
+        if (!same(&lent->slices[i], is_output(i) ? output : &call->slices[i]))
+            fail(call, target.slices[i], is_output(i) ? "differs after the call" : "was changed by the call", place);
+        if (place != HEAP && !canaries_stand(&lent->slices[i], place))
+            fail(call, target.slices[i], "had a byte beside it changed by the call", place);
+    }
+}
+
+static void ask_library(const struct call *call, const uint64_t *expected, const struct bytes *output, int place)
+{
+    struct call lent = *call;
+    uint64_t fields[MOST_FIELDS] = {0};
+    for (size_t i = 0; target.slices[i] != NULL; i++)
+        lent.slices[i] = lend(i, &call->slices[i], place);
+    target.ask(0, &lent, fields);
+    if (memcmp(fields, expected, sizeof fields) != 0) {
+        print_fields("independent", expected);
+        print_fields("library", fields);
+        fail(call, "the answer", "differs", place);
+    }
+    check_slices(call, &lent, output, place);
+    for (size_t i = 0; place == HEAP && target.slices[i] != NULL; i++)
+        free(lent.slices[i].at);
+}
+
+int LLVMFuzzerInitialize(int *argc, char ***argv)
+{
+    (void)argc;
+    (void)argv;
+    say = getenv("FUZZ_SAY") != NULL;
+    make_rooms();
+    return atexit(print_answers);
+}
+
+int LLVMFuzzerTestOneInput(const uint8_t *data, size_t size)
+{
+    struct call call = {{0}, {{NULL, 0}}};
+    struct bytes output = {NULL, 0};
+    uint64_t expected[MOST_FIELDS] = {0};
+
+    for (size_t i = 0; i < MOST_SLICES; i++)
+        call.slices[i].at = decoded[i];
+    target.decode((struct text){data, size}, &call);
+    if (say)
+        print_call(&call);
+
+    struct call lent = call;
+    size_t count = length_of(target.slices);
+    for (size_t i = 0; i < count; i++) {
+        lent.slices[i] = lend(i, &call.slices[i], HEAP);
+        if (is_output(i))
+            output = lent.slices[i];
+    }
+    target.ask(1, &lent, expected);
+    check_slices(&call, &lent, &output, HEAP);
+    if (say)
+        print_fields("independent", expected);
+    if (expected[0] == 0 || expected[0] > 0xff || strchr((const char *)target.answers, (int)expected[0]) == NULL)
+        fail(&call, "the independent answer", "is none that the call has", HEAP);
+    for (int place = 0; place < PLACES; place++)
+        ask_library(&call, expected, &output, place);
+    for (size_t i = 0; i < count; i++)
+        free(lent.slices[i].at);
+    answered[expected[0]]++;
+    return 0;
+}

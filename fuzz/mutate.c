@@ -1,0 +1,112 @@
+/*
+ * How inputs are changed. The fuzzer's own changes mostly break what a line says; since inputs are lines of text full of
+ * digits (codes, sizes, records, preferences), half of the changes are of a digit, a line or an item, and an input may take a
+ * line from another that has it too.
+ */
+#include "decode.h"
+
+#include <string.h>
+
+size_t LLVMFuzzerMutate(uint8_t *data, size_t size, size_t most); /* libFuzzer's */
+size_t LLVMFuzzerCustomMutator(uint8_t *data, size_t size, size_t most, unsigned int seed);
+size_t LLVMFuzzerCustomCrossOver(const uint8_t *data1, size_t size1, const uint8_t *data2, size_t size2, uint8_t *out,
+                                 size_t most, unsigned int seed);
+
+static uint32_t state;
+
+static uint32_t below(size_t bound)
+{
+    state = state * 1664525u + 1013904223u;
+    return (uint32_t)((uint64_t)state * bound >> 32);
+}
+
+/* A part of an input, with the byte that ends it. */
+struct part {
+    size_t start, length;
+};
+
+static struct part part_around(const uint8_t *data, size_t size, size_t at, uint8_t end)
+{
+    struct part part = {at, 0};
+    while (part.start > 0 && data[part.start - 1] != end)
+        part.start--;
+    while (part.start + part.length < size && data[part.start + part.length] != end)
+        part.length++;
+    part.length += part.start + part.length < size;
+    return part;
+}
+
+/* Puts bytes in the place of a part; as it was where there is no room. */
+static size_t replace(uint8_t *data, size_t size, size_t most, struct part part, const uint8_t *bytes, size_t length)
+{
+    size_t after = part.start + part.length;
+    if (size - part.length + length > most)
+        return size;
+    memmove(data + part.start + length, data + after, size - after);
+    memcpy(data + part.start, bytes, length);
+    return size - part.length + length;
+}
+
+/* The next digit from a place on becomes another, mostly a small one. */
+static size_t change_digit(uint8_t *data, size_t size, size_t at)
+{
+    while (at < size && (data[at] < '0' || data[at] > '9'))
+        at++;
+    if (at < size)
+        data[at] = (uint8_t)('0' + below(below(2) ? 4 : 10));
+    return size;
+}
+
+/* A line or an item is doubled, dropped, or put in another place. */
+static size_t move_part(uint8_t *data, size_t size, size_t most, uint8_t end)
+{
+    enum { ROOM = 512 };
+    uint8_t copy[ROOM];
+    struct part part = part_around(data, size, below(size), end);
+    uint32_t choice = below(3);
+    if (part.length > ROOM)
+        return size;
+    memcpy(copy, data + part.start, part.length);
+    if (choice > 0)
+        size = replace(data, size, most, part, copy, 0);
+    if (choice == 1)
+        return size;
+    struct part place = {part.start, 0};
+    if (size > 0)
+        place.start = part_around(data, size, below(size), end).start;
+    return replace(data, size, most, place, copy, part.length);
+}
+
+size_t LLVMFuzzerCustomMutator(uint8_t *data, size_t size, size_t most, unsigned int seed)
+{
+    state = seed;
+    if (size == 0 || below(2) == 0)
+        return LLVMFuzzerMutate(data, size, most);
+    if (below(2) == 0)
+        return change_digit(data, size, below(size));
+    return move_part(data, size, most, below(2) ? '\n' : ' ');
+}
+
+/* The line after one, or a part without bytes. */
+static struct part next_line(const uint8_t *data, size_t size, struct part line)
+{
+    size_t at = line.start + line.length;
+    return at < size ? part_around(data, size, at, '\n') : (struct part){size, 0};
+}
+
+/* A line of the second input comes in the place of the first's line that begins with the same two bytes, or at a random one. */
+size_t LLVMFuzzerCustomCrossOver(const uint8_t *data1, size_t size1, const uint8_t *data2, size_t size2, uint8_t *out,
+                                 size_t most, unsigned int seed)
+{
+    size_t size = size1 < most ? size1 : most;
+    memcpy(out, data1, size);
+    if (size == 0 || size2 == 0)
+        return size;
+    state = seed;
+    struct part taken = part_around(data2, size2, below(size2), '\n'), place = part_around(out, size, 0, '\n');
+    while (place.length >= 2 && (taken.length < 2 || memcmp(out + place.start, data2 + taken.start, 2) != 0))
+        place = next_line(out, size, place);
+    if (place.length < 2)
+        place = (struct part){part_around(out, size, below(size), '\n').start, 0};
+    return replace(out, size, most, place, data2 + taken.start, taken.length);
+}
