@@ -59,7 +59,7 @@ fn is_next_host(v: u64) -> bool
     true
 }
 
-// Whether v is a host verdict.
+// Whether v is a host verdict. Most verdicts of a list that is walked say "next host".
 fn is_host_verdict(v: u64) -> bool
     ensures { λ r. ⌜ r ≡ isHostVerdict v ⌝ }
 {
@@ -165,6 +165,7 @@ pub fn first_host(preferences: [u16; 32], verdicts: [u8; 32], count: usize) -> M
 }
 
 // The answer of two lists of `count` numbers. They are read once, and go into arrays as far as they fit there: a number that does not is no preference, or no verdict.
+// The numbers of the next host are read at the end of a turn: so the four bytes of each are one load, which the tests would take apart.
 fn read_hosts(preferences: &[u8], verdicts: &[u8], count: usize) -> MessageAnswer
     requires { ⌜ (count ≡ length (numbers (now preferences))) × (count ≡ length (numbers (now verdicts))) × (0 < count) × (count ≤ 32) ⌝ }
     ensures { λ r. ⌜ r ≡ messageAnswer (numbers (now (preferences .entry))) (numbers (now (verdicts .entry))) ⌝ }

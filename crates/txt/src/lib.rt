@@ -168,7 +168,8 @@ fn one_more(found: Found, a: usize, e: usize) -> Found
     }
 }
 
-// Looks at the RDATAs once: for their wire form and for the candidates among them. The list of lengths has no left-over bytes.
+// Looks at the RDATAs once: for their wire form and for the candidates among them. That the list of lengths has no left-over bytes is asked before. The length of the
+// next RDATA is read at the end of a turn: so its four bytes are one load, which tests of the number would take apart.
 fn find_candidate(rdatas: &[u8], lengths: &[u8]) -> Found
     ensures { λ r. ⌜ FoundIs (now (rdatas .entry)) (now (lengths .entry)) r ⌝ }
 {
