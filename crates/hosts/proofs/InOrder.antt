@@ -1,14 +1,14 @@
 -- The facts that the rules reach come in document 01's order. So the first of them that isn't given is the first in that order. Assumes nothing.
 use Prim.Native.Nat.{ℕ}
 use mathlib.Core.Path.{_≡_, refl}
-use mathlib.Core.Bool.{Bool, true, false, not, cond, _&&_, _||_}
+use mathlib.Core.Bool.{true, not, _&&_, _||_}
 use mathlib.Core.List.{List, [], _∷_}
 use lib.Dec.{ltb}
 use Rattle.tlsa.specs.declared.Address.{Address}
 use Rattle.tlsa.specs.declared.Address.the-variants.{NoAliasSecure, NoAliasInsecure, AliasSecure, AliasFirstStepSecure, AliasFirstStepInsecure, Failed, NoAddress}
 use Rattle.tlsa.specs.Address.{TlsaName, expandedName, hostName, names, namesToTry}
 use Rattle.tlsa.specs.Answer.{Answer}
-use Rattle.hosts.specs.Facts.{Base, Handshake, established, failed, Place, first, second, Fact, tlsa, starttls, handshake, certificates, Full, value}
+use Rattle.hosts.specs.Facts.{Base, Handshake, established, failed, first, second, tlsa, Full, value}
 use Rattle.hosts.specs.Tree.{Rules, reached}
 use Rattle.hosts.specs.Rules.{needsMtaSts, isListed, Taken, nothing, needsDane, shaken, connect, domainOf, seek, start, rules}
 use Rattle.hosts.specs.Demands.{isRising}

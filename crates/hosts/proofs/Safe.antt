@@ -10,7 +10,7 @@ use Rattle.tlsa.specs.declared.Address.{Address}
 use Rattle.tlsa.specs.declared.Address.the-variants.{NoAliasSecure, NoAliasInsecure, AliasSecure, AliasFirstStepSecure, AliasFirstStepInsecure, Failed, NoAddress}
 use Rattle.tlsa.specs.Address.{TlsaName, expandedName, hostName, questionOf, names, namesToTry}
 use Rattle.tlsa.specs.Record.{usable}
-use Rattle.tlsa.specs.Answer.{Answer, secure, insecure, absent, failed, secureRecords, readOf}
+use Rattle.tlsa.specs.Answer.{Answer, secure, failed, secureRecords, readOf}
 use Rattle.certificates.specs.Checks.{references, danePasses}
 use Rattle.hosts.specs.Facts.{Base, Handshake, established, Place, first, second, tlsa, Full, value}
 use Rattle.hosts.specs.Facts as F

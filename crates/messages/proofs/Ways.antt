@@ -1,24 +1,22 @@
 -- The ways out of the functions that have no loop. Assumes nothing.
 use Prim.Native.Nat.{ℕ, _<_, _≤_}
-use mathlib.Core.Path.{_≡_, refl, sym, ap, _∙_}
+use mathlib.Core.Path.{_≡_, refl, sym, _∙_}
 use mathlib.Core.Bool.{Bool, true, false, _||_, and-false, or-false}
 use mathlib.Core.List.{List}
 use native.Mathlib.Omega.{arith}
 use lib.Dec.{eqb, leb}
 use lib.ListN.{length, take}
-use lib.Seq.{length-take-le}
 use borrow.Author.Needs.{needs}
 use borrow.Author.Tests.{not-true, not-false, le-leb, lt-leb, eq-eqb, ne-eqb}
-use Rattle.lists.specs.Bytes.{within, all}
+use Rattle.lists.specs.Bytes.{within}
 use Rattle.numbers.specs.Numbers.{numbers, isWhole}
 use Rattle.messages.specs.declared.MessageAnswer.{MessageAnswer}
 use Rattle.messages.specs.declared.MxLookup.{MxLookup}
 use Rattle.messages.specs.declared.MxLookup.the-variants.{Answered, Failed}
 use Rattle.messages.specs.declared.Decider.{Decider}
 use Rattle.messages.specs.declared.Decider.the-variants.{Is, Nobody}
-use Rattle.messages.specs.Hosts.{isPreference, isNextHost, isHostVerdict, isHostList, hostsOf, noHost, answerOf, messageAnswer, hostsAnswer, listsAnswer, nextHost}
-use Rattle.messages.specs.Search.{before, withHost, deciderOf, decidedBy}
-use Rattle.messages.proofs.Finds.{decider-answers}
+use Rattle.messages.specs.Hosts.{isNextHost, isHostVerdict, isHostList, noHost, answerOf, messageAnswer, hostsAnswer, listsAnswer, nextHost}
+use Rattle.messages.specs.Search.{before, withHost, decidedBy}
 
 -- `is_host_verdict`
 module _ (v : ℕ) where

@@ -78,23 +78,11 @@ module _ (p : ℕ → Bool) (ns : List ℕ) (k n : ℕ) (inv : all p ns ≡ all 
 
 pub ruleset each-laws = (each-next, each-fail, each-end, not-true, not-false, needs)
 
--- `all_at_most`
-module _ (bound : ℕ) (ns : List ℕ) (k n : ℕ) (inv : all (atMost bound) ns ≡ all (atMost bound) (drop k ns)) (counted : n ≡ length ns) (h : k < n) (v : ℕ) (given : v ≡ getD ns k 0) where
-  pub most-next : v ≤ bound → all (atMost bound) ns ≡ all (atMost bound) (drop (k + 1) ns)
-  unfolding atMost
-  most-next le = each-next (atMost bound) ns k n inv counted h v given true (sym (le-leb v bound le)) refl
-
-  pub most-fail : bound < v → false ≡ all (atMost bound) ns
-  unfolding atMost
-  most-fail gt = each-fail (atMost bound) ns k n inv counted h v given false (sym (lt-leb v bound gt)) refl
-
-pub ruleset most-laws = (most-next, most-fail, each-end, needs)
-
 nothing-left : (left a b : ℕ) → left + a ≡ b → eqb left 0 ≡ eqb a b
 nothing-left zero a b h = sym (eq-eqb a b (omega arith))
 nothing-left (suc k) a b h = ne-eqb (suc k) 0 (λ z. omega arith) ∙ sym (ne-eqb a b (λ z. omega arith))
 
--- `sums_to`: a turn of its loop, and its ways out; w is what `is_whole` gave
+-- a loop that counts down what is left of the total: its turn and its ways out; w is what `is_whole` gave
 module _ (list : List ℕ) (total : ℕ) (w : Bool) (whole : w ≡ isWhole list) where
   pub sums-left-over : w ≡ false → false ≡ sumsTo list total
   unfolding sumsTo
@@ -121,8 +109,6 @@ module _ (list : List ℕ) (total : ℕ) (w : Bool) (whole : w ≡ isWhole list)
     sums-end h t =
         let z : eqb left 0 ≡ eqb (sum (numbers list)) total = nothing-left left (sum (numbers list)) total (omega (arith, sum-none h)) in
         cc
-
-pub ruleset sums-laws = (sums-left-over, sums-next, sums-over, sums-end, not-true, not-false, needs)
 
 -- `larger`
 pub larger-second : (x y : ℕ) → x < y → y ≡ cond (ltb x y) y x

@@ -6,7 +6,7 @@ use mathlib.Core.List.{List, [], _∷_, flatten}
 use mathlib.Core.Option.{none, some}
 use native.Mathlib.Omega.{arith}
 use lib.Dec.{eqb, leb}
-use lib.ListN.{length, getD, take, drop, length-drop, take-append-drop, drop-of-length-le, List·getD-eq-default}
+use lib.ListN.{length, getD, take, drop, length-drop, take-append-drop, drop-of-length-le}
 use lib.Seq.{drop-drop, take-all, take-nil, length-take-le}
 use borrow.Author.Needs.{needs}
 use borrow.Author.Tests.{le-leb, lt-leb, leb-true, leb-false, eqb-true}
@@ -89,32 +89,6 @@ pub cut-count : (s ns : List ℕ) → length (cut s ns) ≡ length ns
 unfolding cut
 cut-count s [] = refl
 cut-count s (n ∷ ns) = ap suc (cut-count (drop n s) ns)
-
--- `piece`: a turn of its loop, at place j, and its ways out
-module _ (s ns : List ℕ) (k : ℕ) where
-  pub piece-none : (n : ℕ) → n ≡ length ns → n ≤ k → take 0 (drop 0 s) ≡ getD (cut s ns) k []
-  piece-none n counted h = sym (List·getD-eq-default (cut s ns) [] (omega (arith, cut-count s ns)))
-
-  pub piece-start : getD (cut s ns) k [] ≡ getD (cut (drop 0 s) (drop 0 ns)) (k - 0) []
-  piece-start = let z : k - 0 ≡ k = omega arith in rw z
-
-  later : (x : List ℕ) (xs : List (List ℕ)) (m l : ℕ) → m ≡ suc l → getD (x ∷ xs) m [] ≡ getD xs l []
-  later x xs m l e = rw e
-
-  module _ (at j : ℕ) (inv : getD (cut s ns) k [] ≡ getD (cut (drop at s) (drop j ns)) (k - j) []) (w : at ≤ length s) (e : ℕ) (n : ℕ) (counted : n ≡ length ns) (h : k < n) where
-    pub piece-next : e ≡ endOf (length s) at (getD ns j 0) → j < k → getD (cut s ns) k [] ≡ getD (cut (drop e s) (drop (j + 1) ns)) (k - (j + 1)) []
-    piece-next ends b =
-        let c : cut (drop at s) (drop j ns) ≡ take (e - at) (drop at s) ∷ cut (drop e s) (drop (j + 1) ns) = cut-next s ns at j e ends w (omega arith) in
-        rw c at inv ∙ later (take (e - at) (drop at s)) (cut (drop e s) (drop (j + 1) ns)) (k - j) (k - (j + 1)) (omega arith)
-
-    pub piece-here : e ≡ endOf (length s) at (getD ns k 0) → k ≤ j → j ≤ k → take (e - at) (drop at s) ≡ getD (cut s ns) k []
-    piece-here ends b d =
-        let i : j ≡ k = omega arith in
-        let z : k - k ≡ 0 = omega arith in
-        let c : cut (drop at s) (drop k ns) ≡ take (e - at) (drop at s) ∷ cut (drop e s) (drop (k + 1) ns) = cut-next s ns at k e ends w (omega arith) in
-        sym (rw (i, z, c) at inv)
-
-pub ruleset piece-laws = (piece-none, piece-start, piece-next, piece-here, end-after, end-within, needs)
 
 -- the pieces joined are the whole, where the lengths sum to it
 pub cut-joined : (s ns : List ℕ) → sum ns ≡ length s → flatten (cut s ns) ≡ s

@@ -1,7 +1,6 @@
 // Lists of four-byte numbers, the highest byte first, and the pieces that such a list of lengths cuts.
 ghost use mathlib.Core.Path.{_≡_};
 ghost use mathlib.Core.Bool.{cond, _&&_};
-ghost use mathlib.Core.List.{[]};
 ghost use Prim.Native.Nat.{_*_, _+_, _<_, _≤_};
 ghost use lib.Dec.{ltb};
 ghost use lib.ListN.{length, getD, take, drop};
@@ -38,44 +37,6 @@ pub fn number(list: &[u8], k: usize) -> u64
     ((a * 256 + b) * 256 + c) * 256 + d
 }
 
-// Whether every number of the list is at most the bound.
-pub fn all_at_most(list: &[u8], bound: u64) -> bool
-    ensures { λ r. ⌜ r ≡ all (atMost bound) (numbers (now (list .entry))) ⌝ }
-{
-    let n = count(list);
-    let mut k = 0;
-    while k < n {
-        let v = number(list, k);
-        if bound < v {
-            return false;
-        }
-        k += 1;
-    }
-    true
-}
-
-// Whether the list has no left-over bytes, and its numbers sum to the total. What is left of the total is counted down, so that no sum is too large.
-pub fn sums_to(list: &[u8], total: usize) -> bool
-    ensures { λ r. ⌜ r ≡ sumsTo (now (list .entry)) total ⌝ }
-{
-    let whole = is_whole(list);
-    if !whole {
-        return false;
-    }
-    let n = count(list);
-    let mut left = total as u64;
-    let mut k = 0;
-    while k < n {
-        let v = number(list, k);
-        if left < v {
-            return false;
-        }
-        left -= v;
-        k += 1;
-    }
-    left == 0
-}
-
 // The larger of two numbers.
 fn larger(x: u64, y: u64) -> u64
     ensures { λ r. ⌜ r ≡ cond (ltb x y) y x ⌝ }
@@ -86,7 +47,7 @@ fn larger(x: u64, y: u64) -> u64
     x
 }
 
-// Whether it does, and every number of the list is at most the bound: both in one pass. The largest is held against the bound at the end.
+// Whether the list has no left-over bytes, its numbers sum to the total, and each is at most the bound: in one pass. What is left of the total is counted down, so that no sum is too large, and the largest is held against the bound at the end.
 pub fn fits(list: &[u8], total: usize, bound: u64) -> bool
     ensures { λ r. ⌜ r ≡ (sumsTo (now (list .entry)) total && all (atMost bound) (numbers (now (list .entry)))) ⌝ }
 {
@@ -144,22 +105,4 @@ pub fn part(s: &[u8], start: usize, n: u64) -> &[u8]
     }
     let e = end_of(s.len(), start, n);
     &s[start..e]
-}
-
-// The piece at place k of s, cut by the lengths; nothing where there is none.
-pub fn piece<'a>(s: &'a [u8], lengths: &[u8], k: usize) -> &'a [u8]
-    ensures { λ r. ⌜ now r ≡ getD (cut (now (s .entry)) (numbers (now (lengths .entry)))) k [] ⌝ }
-{
-    let n = count(lengths);
-    if n <= k {
-        return &s[0..0];
-    }
-    let mut at = 0;
-    let mut j = 0;
-    while j < k {
-        at = end_at(lengths, j, at, s.len());
-        j += 1;
-    }
-    let e = end_at(lengths, k, at, s.len());
-    &s[at..e]
 }

@@ -31,7 +31,7 @@ pub record Pair : Type 0 where
 pub data Line : List ℕ → Pair → Type 0 where
   line : (n b v c : List ℕ) → isFieldName n ≡ true → all blank b ≡ true → isValue v ≡ true → all blank c ≡ true → Line (n ++ (code ":" ∷ (b ++ (v ++ c)))) (record { name = n; value = v })
 
--- a body with its fields: lines that end in LF or CRLF, the last end optional
+-- a body with its fields: lines that end in LF or CRLF, the last end optional. Zero bytes stand here as what follows the last line: alone they make no policy, and are malformed (`bodyFault`)
 pub data Body : List ℕ → List Pair → Type 0 where
   nothing : Body [] []
   last : {l : List ℕ} {f : Pair} → Line l f → Body l (f ∷ [])

@@ -17,7 +17,7 @@ use Rattle.txt.specs.declared.Found.{Found}
 use Rattle.txt.specs.declared.Kind.{Kind}
 use Rattle.txt.specs.Rdata.{isRdata, isWireForm, joined, texts}
 use Rattle.txt.specs.Txt.{isCandidate, candidates}
-use Rattle.txt.specs.Steps.{KindIs, OneIs, SeenIs, FoundIs, withOne, wireFrom, candidatesFrom}
+use Rattle.txt.specs.Steps.{KindIs, SeenIs, FoundIs, withOne, wireFrom, candidatesFrom}
 
 -- `kind_of`: good and hit are what `is_rdata` and `is_candidate` gave
 module _ (s : List ℕ) (good : Bool) (gave : good ≡ isRdata s) where

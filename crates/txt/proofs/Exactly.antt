@@ -8,7 +8,7 @@ use lib.Dec.{eqb, leb}
 use lib.ListN.{length}
 use Rattle.txt.specs.Rdata.{isWireForm, texts}
 use Rattle.txt.specs.Grammar.{idField}
-use Rattle.txt.specs.Txt.{Outcome, refused, wrote, candidates, chosen, outcome, graded, grammar, answerOf, readTxt}
+use Rattle.txt.specs.Txt.{refused, wrote, candidates, chosen, outcome, graded, grammar, answerOf, readTxt}
 
 -- of the candidates: none is left
 abbrev pub isNone : List (List ℕ) → Bool
