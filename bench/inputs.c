@@ -144,12 +144,12 @@ static void make_long_value_policy(struct input *input, size_t size)
 
 static void add_policies(struct inputs *inputs)
 {
-    struct input *input = add(inputs, PROMISED, READ_POLICY, "policy of 4 lines, 63 bytes");
+    struct input *input = add(inputs, CALLS, READ_POLICY, "policy of 4 lines, 63 bytes");
 
     input->first = text(small_policy);
     expect(input, 0, TWEEDSTORK_POLICY_ACCEPTED, TWEEDSTORK_ENFORCE, MAX_AGE, 1);
-    make_mx_policy(add(inputs, PROMISED, READ_POLICY, "policy of 64 KiB, mx lines"), 65536);
-    make_long_value_policy(add(inputs, PROMISED, READ_POLICY, "policy of 64 KiB, one long value"), 65536);
+    make_mx_policy(add(inputs, CALLS, READ_POLICY, "policy of 64 KiB, mx lines"), 65536);
+    make_long_value_policy(add(inputs, CALLS, READ_POLICY, "policy of 64 KiB, one long value"), 65536);
     for (size_t size = 64; size <= 65536; size *= 4)
         make_mx_policy(add_counted(inputs, POLICY_BYTES, READ_POLICY, size), size);
 }
@@ -222,9 +222,9 @@ static void add_txt(struct inputs *inputs)
     for (size_t i = 0; i + 1 < RECORDS; i++)
         records[i] = text(others[i % OTHERS]);
     records[RECORDS - 1] = one;
-    make_txt(add(inputs, PROMISED, READ_TXT, "TXT record of RFC 8461, 28 bytes"), &one, 1);
-    make_txt(add(inputs, PROMISED, READ_TXT, "TXT record of 4 KiB, 128 fields"), &kib4, 1);
-    make_txt(add(inputs, PROMISED, READ_TXT, "21 TXT records, the last is MTA-STS's"), records, RECORDS);
+    make_txt(add(inputs, CALLS, READ_TXT, "TXT record of RFC 8461, 28 bytes"), &one, 1);
+    make_txt(add(inputs, CALLS, READ_TXT, "TXT record of 4 KiB, 128 fields"), &kib4, 1);
+    make_txt(add(inputs, CALLS, READ_TXT, "21 TXT records, the last is MTA-STS's"), records, RECORDS);
     /* An RDATA has at most 65,535 bytes, so the series ends just below 64 KiB. */
     for (size_t size = 64; size <= 65536; size *= 4) {
         struct bytes record = long_record(size < 65000 ? size : 65000);
@@ -312,22 +312,22 @@ static struct facts *add_host(struct inputs *inputs, enum table table, const cha
     return &input->facts[0];
 }
 
-static void add_promised_hosts(struct inputs *inputs)
+static void add_single_hosts(struct inputs *inputs)
 {
-    struct facts *f = add_host(inputs, PROMISED, "host, 1 TLSA record 3 1 1, 8 certificates", 8, TWEEDSTORK_DANE, 1);
+    struct facts *f = add_host(inputs, CALLS, "host, 1 TLSA record 3 1 1, 8 certificates", 8, TWEEDSTORK_DANE, 1);
 
     give_records(f, 1, 3);
     match(f, 0, 0);
-    f = add_host(inputs, PROMISED, "host, 32 TLSA records 3 1 1, 8 certificates", 8, TWEEDSTORK_DANE, 1);
+    f = add_host(inputs, CALLS, "host, 32 TLSA records 3 1 1, 8 certificates", 8, TWEEDSTORK_DANE, 1);
     give_records(f, 32, 3);
     match(f, 31, 0);
-    f = add_host(inputs, PROMISED, "host, 1 TLSA record 2 1 1, 8 certificates", 8, TWEEDSTORK_DANE, 1);
+    f = add_host(inputs, CALLS, "host, 1 TLSA record 2 1 1, 8 certificates", 8, TWEEDSTORK_DANE, 1);
     give_records(f, 1, 2);
     match(f, 0, 7);
-    f = add_host(inputs, PROMISED, "host, 32 TLSA records 2 1 1, 8 certificates", 8, TWEEDSTORK_DANE, 1);
+    f = add_host(inputs, CALLS, "host, 32 TLSA records 2 1 1, 8 certificates", 8, TWEEDSTORK_DANE, 1);
     give_records(f, 32, 2);
     match(f, 31, 7);
-    f = add_host(inputs, PROMISED, "host, 32 TLSA records 2 1 1, 8 certificates, a policy", 8, TWEEDSTORK_DANE_AND_MTA_STS, 1);
+    f = add_host(inputs, CALLS, "host, 32 TLSA records 2 1 1, 8 certificates, a policy", 8, TWEEDSTORK_DANE_AND_MTA_STS, 1);
     give_records(f, 32, 2);
     match(f, 31, 7);
     give_policy(f);
@@ -443,7 +443,7 @@ struct inputs *build_inputs(void)
 
     add_policies(inputs);
     add_txt(inputs);
-    add_promised_hosts(inputs);
+    add_single_hosts(inputs);
     add_decisions(inputs);
     add_record_series(inputs);
     add_certificate_series(inputs);

@@ -42,8 +42,8 @@ struct answer {
 
 enum call { READ_TXT, READ_POLICY, JUDGE_HOST, NEXT_HOST };
 
-/* The tables that the results are shown in. The promise on speed is given for the inputs of the first. */
-enum table { PROMISED, DECISIONS, LAST_RECORD_MATCHES, NO_RECORD_MATCHES, CERTIFICATES, POLICY_BYTES, TXT_BYTES, DNS_IDS, HOSTS, TABLES };
+/* The tables that the results are shown in. */
+enum table { CALLS, DECISIONS, LAST_RECORD_MATCHES, NO_RECORD_MATCHES, CERTIFICATES, POLICY_BYTES, TXT_BYTES, DNS_IDS, HOSTS, TABLES };
 
 enum { MAX_STEPS = 5, MAX_INPUTS = 80 };
 
