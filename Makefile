@@ -63,7 +63,7 @@ fuzz: archive
 	fuzz/run target/staticlib $(OUT)/fuzz $(SECONDS)
 
 install: archive
-	@packaging/install $(ARCHIVE) $(PREFIX)
+	@packaging/install $(ARCHIVE) '$(PREFIX)'
 
 clean:
 	rm -rf target

@@ -7,6 +7,8 @@
  */
 #include <inttypes.h>
 #include <stdio.h>
+#include <stdlib.h>
+#include <string.h>
 
 #include "scenario.h"
 #include "tweedstork.h"
@@ -90,76 +92,123 @@ static int learn(uint64_t question, const struct scenario_host *host, struct twe
     }
 }
 
-/* A host's verdict: ask, learn, ask again. The library asks for each fact at most once, so this ends. */
+/* Has the scenario an answer to the question? */
+static int says(const struct scenario_host *host, uint64_t question)
+{
+    switch (question) {
+    case TWEEDSTORK_ASK_TLSA_EXPANDED:
+        return host->at_expanded.result != 0;
+    case TWEEDSTORK_ASK_TLSA_HOST:
+        return host->at_host.result != 0;
+    case TWEEDSTORK_ASK_STARTTLS:
+        return host->starttls != 0;
+    case TWEEDSTORK_ASK_HANDSHAKE:
+        return host->handshake != 0;
+    default:
+        return 1;
+    }
+}
+
+/* A host's verdict or refusal: ask, learn, ask again. The library asks for each fact at most once, so this ends. */
 static uint64_t judge(const struct scenario *s, const struct scenario_host *host)
 {
     struct tweedstork_host_facts facts = first_facts(s, host);
-    uint64_t answer, before = 0;
+    uint64_t answer;
 
-    for (;;) {
+    do {
         answer = tweedstork_judge_facts(&facts).number;
         printf("  library %" PRIu64 ": %s\n", answer, tweedstork_answer_words(answer));
-        if (answer == before) {
+        if (!says(host, answer)) {
             fflush(stdout);
-            fprintf(stderr, "relay: the scenario doesn't say it\n");
-            return 0;
+            fprintf(stderr, "relay: the scenario doesn't say it of %.*s\n", (int)host->name.length, (const char *)host->name.bytes);
+            exit(2);
         }
-        before = answer;
-        if (!learn(answer, host, &facts))
-            return answer;
-    }
+    } while (learn(answer, host, &facts));
+    return answer;
 }
 
-/* What the relay then does. Only 1 to 5 let a message go. */
-static void act(uint64_t answer, const struct scenario_host *host)
+/* How the relay delivers. Only 1 to 5 let a message go; for every other number there is no way. */
+static const char *way(uint64_t verdict)
 {
-    const char *how = NULL;
-
-    switch (answer) {
+    switch (verdict) {
     case TWEEDSTORK_CLEARTEXT:
-        how = "in cleartext";
-        break;
+        return "in cleartext";
     case TWEEDSTORK_ENCRYPTED:
-        how = "over TLS, whoever the server is";
-        break;
+        return "over TLS, whoever the server is";
     case TWEEDSTORK_DANE:
     case TWEEDSTORK_MTA_STS:
     case TWEEDSTORK_DANE_AND_MTA_STS:
-        how = "over the TLS connection whose certificate passed";
-        break;
+        return "over the TLS connection whose certificate passed";
+    default:
+        return NULL;
     }
-    if (how != NULL)
-        printf("relay: sends the message to %.*s, %s\n", (int)host->name.length, (const char *)host->name.bytes, how);
-    else
-        printf("relay: keeps the message and tries again later\n");
 }
 
-/* A message: host after host, until the library names one to deliver to or says to wait. Returns the last answer. */
-static uint64_t deliver(const struct scenario *s)
-{
+/* A message's hosts: those that are left, with their preferences and verdicts as lists. */
+struct hosts {
+    const struct scenario_host *at[SCENARIO_HOSTS];
     uint8_t preferences[4 * SCENARIO_HOSTS], verdicts[4 * SCENARIO_HOSTS];
-    struct tweedstork_message_answer answer;
-    uint64_t verdict;
+    size_t count;
+};
 
-    for (size_t i = 0; i < s->host_count; i++) {
-        tweedstork_put_number(preferences, i, s->hosts[i].preference);
-        tweedstork_put_number(verdicts, i, TWEEDSTORK_NOT_TRIED);
+/* Leaves a host out, so that the others go on. */
+static void leave_out(struct hosts *hosts, size_t position)
+{
+    size_t after = --hosts->count - position;
+
+    memmove(&hosts->at[position], &hosts->at[position + 1], after * sizeof hosts->at[0]);
+    memmove(&hosts->preferences[4 * position], &hosts->preferences[4 * position + 4], 4 * after);
+    memmove(&hosts->verdicts[4 * position], &hosts->verdicts[4 * position + 4], 4 * after);
+}
+
+/* May the refusal come of what the domain or the server sent? The other refusals are mistakes of the relay's own. */
+static int is_theirs(uint64_t refusal)
+{
+    return refusal == TWEEDSTORK_BAD_HOST || refusal == TWEEDSTORK_BAD_TLSA || refusal == TWEEDSTORK_BAD_CERTIFICATES;
+}
+
+/* Tries a host and notes what came of it. Returns 0 where the relay itself made a mistake. */
+static int try_host(const struct scenario *s, struct hosts *hosts, size_t position)
+{
+    const struct scenario_host *host = hosts->at[position];
+    uint64_t answer;
+
+    printf(": %.*s\n", (int)host->name.length, (const char *)host->name.bytes);
+    answer = judge(s, host);
+    if (is_theirs(answer))
+        leave_out(hosts, position);
+    else
+        tweedstork_put_number(hosts->verdicts, position, (uint32_t)answer);
+    return is_theirs(answer) || answer <= TWEEDSTORK_MTA_STS_MISMATCH;
+}
+
+/* A message: host after host, until the library names one to deliver to or says to wait. Returns 0 where the relay itself made a mistake. */
+static int deliver(const struct scenario *s)
+{
+    struct hosts hosts = {{NULL}, {0}, {0}, s->host_count};
+    struct tweedstork_message_answer answer;
+
+    for (size_t i = 0; i < hosts.count; i++) {
+        hosts.at[i] = &s->hosts[i];
+        tweedstork_put_number(hosts.preferences, i, s->hosts[i].preference);
+        tweedstork_put_number(hosts.verdicts, i, TWEEDSTORK_NOT_TRIED);
     }
-    for (;;) {
-        answer = tweedstork_next_host(s->mx_lookup, preferences, 4 * s->host_count, verdicts, 4 * s->host_count);
+    do {
+        answer = tweedstork_next_host(s->mx_lookup, hosts.preferences, 4 * hosts.count, hosts.verdicts, 4 * hosts.count);
         printf("library %" PRIu64 ": %s", answer.number, tweedstork_answer_words(answer.number));
-        if (answer.number != TWEEDSTORK_TRY_HOST)
-            break;
-        const struct scenario_host *host = &s->hosts[answer.position];
-        printf(": %.*s\n", (int)host->name.length, (const char *)host->name.bytes);
-        verdict = judge(s, host);
-        if (verdict == 0 || verdict > TWEEDSTORK_NO_HOST_LEFT) /* a refusal: what the relay passed is wrong */
-            return verdict;
-        tweedstork_put_number(verdicts, (size_t)answer.position, (uint32_t)verdict);
-    }
-    printf("\n");
-    act(answer.number, &s->hosts[answer.position]);
-    return answer.number;
+        if (answer.number == TWEEDSTORK_TRY_HOST && !try_host(s, &hosts, (size_t)answer.position))
+            return 0;
+    } while (answer.number == TWEEDSTORK_TRY_HOST && hosts.count > 0);
+    if (answer.number != TWEEDSTORK_TRY_HOST)
+        printf("\n");
+    if (answer.number > TWEEDSTORK_NO_HOST_LEFT)
+        return 0;
+    if (way(answer.number) != NULL)
+        printf("relay: sends the message to %.*s, %s\n", (int)hosts.at[answer.position]->name.length,
+               (const char *)hosts.at[answer.position]->name.bytes, way(answer.number));
+    else
+        printf("relay: keeps the message and tries again later\n");
+    return 1;
 }
 
 int main(int argc, char **argv)
@@ -175,12 +224,10 @@ int main(int argc, char **argv)
         return 2;
     }
     for (int i = 1; i < argc; i++) {
-        uint64_t answer;
         if (!scenario_read(argv[i], &s))
             return 2;
         printf("%s%s: a message to %.*s\n", i > 1 ? "\n" : "", argv[i], (int)s.next_hop.length, (const char *)s.next_hop.bytes);
-        answer = deliver(&s);
-        if (answer == 0 || answer > TWEEDSTORK_NO_HOST_LEFT)
+        if (!deliver(&s))
             return 1;
     }
     return 0;

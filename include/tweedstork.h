@@ -14,6 +14,8 @@
  * Conventions
  * - A number is a uint64_t. A byte slice is a pointer and a length; NULL with length 0 is an empty slice.
  * - A list of numbers is a byte slice, four bytes each, the highest first. Left-over bytes get the list's refusal.
+ * - A name is ASCII text: labels of letters, digits and hyphens with single dots between, no dot at the end. Case doesn't
+ *   matter; an international name is given as A-labels (xn--).
  * - An answer is a struct; its first field is the answer number, one of enum tweedstork_number. It is never zero.
  * - A refusal (40 to 67) has zero in every other field, and leaves lent memory as it was, but for 42 (see there).
  * - No call keeps a pointer, allocates or has state. Calls may run on any number of threads at once.
@@ -38,7 +40,7 @@ uint64_t tweedstork_version(void);
 /* The answer numbers. Zero is none of them: it means that nobody answered. */
 enum tweedstork_number {
     /* verdicts on a host: deliver */
-    TWEEDSTORK_CLEARTEXT = 1,               /* in cleartext */
+    TWEEDSTORK_CLEARTEXT = 1,               /* in cleartext; after a failed handshake over a new connection */
     TWEEDSTORK_ENCRYPTED = 2,               /* encrypted, unauthenticated */
     TWEEDSTORK_DANE = 3,                    /* authenticated by DANE */
     TWEEDSTORK_MTA_STS = 4,                 /* authenticated by MTA-STS */
@@ -53,8 +55,8 @@ enum tweedstork_number {
     TWEEDSTORK_ASK_STARTTLS = 10,           /* ask: STARTTLS offered? */
     TWEEDSTORK_ASK_HANDSHAKE = 11,          /* ask: handshake outcome */
     TWEEDSTORK_ASK_CERTIFICATES = 12,       /* ask: certificate facts */
-    TWEEDSTORK_ASK_TLSA_EXPANDED = 13,      /* ask: TLSA at the expanded name */
-    TWEEDSTORK_ASK_TLSA_HOST = 14,          /* ask: TLSA at the host name */
+    TWEEDSTORK_ASK_TLSA_EXPANDED = 13,      /* ask: TLSA at the expanded name: at _25._tcp.NAME in DNS */
+    TWEEDSTORK_ASK_TLSA_HOST = 14,          /* ask: TLSA at the host name, likewise */
     /* verdicts on a host: go on to the next host */
     TWEEDSTORK_ADDRESS_FAILED = 20,         /* address lookup failed */
     TWEEDSTORK_NO_ADDRESS = 21,             /* no address */
@@ -132,7 +134,7 @@ static inline const char *tweedstork_answer_words(uint64_t number)
     case TWEEDSTORK_BAD_TLSA: return "refused: TLSA answer outside the limits";
     case TWEEDSTORK_BAD_CERTIFICATES: return "refused: certificate facts outside the limits";
     case TWEEDSTORK_FACT_MISSING: return "refused: a later fact is given while an earlier needed one is missing";
-    case TWEEDSTORK_BAD_CODE: return "refused: an input code outside its choices";
+    case TWEEDSTORK_BAD_CODE: return "refused: an input code outside its choices, perhaps one left zero";
     default: return "no answer number";
     }
 }
@@ -234,24 +236,28 @@ struct tweedstork_host_answer {
  *
  * Takes:   in every call: clock (seconds since 1970), next_hop (the name that the MX lookup was made for), origin of the host
  *          list, host (the name of the host to judge), address (result of its address lookup), expanded (the fully expanded
- *          host name, where the address is an alias), policy_given, policy (the body) and fetched (the clock of its fetch).
+ *          host name, where the address is an alias), policy_given (TWEEDSTORK_NO_POLICY too where tweedstork_read_policy
+ *          refuses the body), policy (the body) and fetched (the clock of its fetch).
  *          Then, as far as learnt, in this order:
  *          tlsa_answers: how many TLSA answers are given, 0 to 2, in the order asked for; of each its result and, where that
  *          is TWEEDSTORK_TLSA_SECURE, its records: their RDATAs one after another, and a list of their lengths (up to 32
  *          records of up to 4,096 bytes).
  *          starttls; handshake;
  *          certificates_given, and then: the certificates one after another, leaf first, and a list of their lengths (up to 8
- *          of up to 16,384 bytes, 65,536 in all); key_places: list of numbers, for each certificate start and length of its
- *          public key info inside it; digests: for each certificate 192 bytes, SHA-256 and SHA-512 of the certificate, then
- *          of its key info; paths: list of yes/no, does the path from the leaf to it verify?; trusted_root (yes/no): does the
- *          path end in a trusted root, unexpired?; dns_ids one after another with a list of their lengths (up to 64 of up to
- *          255 bytes); common_name_given (yes/no) and the common name (up to 255 bytes).
+ *          of up to 16,384 bytes, 65,536 in all); key_places: list of numbers, two for each certificate, start and length of
+ *          its public key info inside it; digests: for each certificate 192 bytes, SHA-256 and SHA-512 of the certificate,
+ *          then of its key info; paths: list of numbers, for each certificate, the leaf too, TWEEDSTORK_YES or TWEEDSTORK_NO:
+ *          does the path from the leaf to it verify?; trusted_root (yes/no): does the path end in a trusted root, unexpired?;
+ *          dns_ids one after another with a list of their lengths (up to 64 of up to 255 bytes); common_name_given (yes/no)
+ *          and the common name (up to 255 bytes).
  *          What isn't supplied is not looked at, whatever bytes stand there.
  * Answers: a verdict (1 to 5: deliver; 20 to 27: next host), exactly when every way in which the missing facts could turn
  *          out leads to it; otherwise the question (10 to 14) of the first fact that the rules reach and that is not given.
  *          tlsa_questions is how many of the given TLSA answers the rules read, 0 to 2.
  *          Refusals, in this order: TWEEDSTORK_BAD_CODE, _BAD_CLOCK, _BAD_NEXT_HOP, _BAD_HOST, the policy's (50 to 52),
- *          _BAD_TLSA, _BAD_CERTIFICATES, and last _FACT_MISSING.
+ *          _BAD_TLSA, _BAD_CERTIFICATES, and last _FACT_MISSING. A refusal is never a permission to deliver. _BAD_HOST,
+ *          _BAD_TLSA and _BAD_CERTIFICATES may come of what the domain or the server sent: the relay leaves this host out
+ *          and goes on with the others. The other refusals are mistakes of the relay's own.
  * Leaves:  all memory as it was.
  */
 struct tweedstork_host_answer tweedstork_judge_host(
@@ -301,6 +307,8 @@ struct tweedstork_message_answer {
  *          position. Positions count from 0 in the lists as given. TWEEDSTORK_NO_HOST_LEFT where every host is a "next
  *          host", TWEEDSTORK_MX_LOOKUP_FAILED where the lookup failed (the lists are then not looked at); position 0 then.
  *          Refusals: TWEEDSTORK_BAD_CODE, then TWEEDSTORK_BAD_HOST_LIST.
+ *          A host that was refused, that could not be connected to, or that did not take the message after all, is the
+ *          relay's to leave out of both lists; with none left the relay delays by itself.
  * Leaves:  all memory as it was.
  */
 struct tweedstork_message_answer tweedstork_next_host(
@@ -326,7 +334,15 @@ struct tweedstork_slice {
     size_t length;
 };
 
-/* The arguments of tweedstork_judge_host by name. A fact that isn't learnt yet is left zero. */
+struct tweedstork_tlsa_answer {
+    uint64_t result;                        /* enum tweedstork_tlsa_result */
+    struct tweedstork_slice lengths, records;
+};
+
+/*
+ * The arguments of tweedstork_judge_host by name. A fact that isn't learnt yet is left zero. Never zero are origin, address and
+ * policy_given; nor, once certificates are given, trusted_root and common_name_given.
+ */
 struct tweedstork_host_facts {
     uint64_t clock;
     struct tweedstork_slice next_hop;
@@ -338,10 +354,7 @@ struct tweedstork_host_facts {
     struct tweedstork_slice policy;
     uint64_t fetched;
     uint64_t tlsa_answers;
-    struct {
-        uint64_t result;                    /* enum tweedstork_tlsa_result */
-        struct tweedstork_slice lengths, records;
-    } tlsa[2];
+    struct tweedstork_tlsa_answer tlsa[2];
     uint64_t starttls;                      /* enum tweedstork_starttls */
     uint64_t handshake;                     /* enum tweedstork_handshake */
     uint64_t certificates_given;            /* enum tweedstork_certificates_given */

@@ -51,9 +51,13 @@ expect "cannot open the scenario $files/missing" relay "$files/missing"
 printf 'clock 1\nnext-hop example.com\nmx secure\nhost 10 mail.example.com\naddress sure\n' >"$files/address"
 expect "$files/address, line 5: not understood" relay "$files/address"
 printf 'clock 1\nnext-hop example.com\nmx secure\nhost 10 mail..example.com\naddress secure\n' >"$files/name"
-expect '  library 61: refused: bad host name' relay "$files/name"
+expect 'relay: keeps the message and tries again later' relay "$files/name"
+sed -e '/^host/i host 5 mail_.example.com\n address secure' examples/scenarios/dane.txt >"$files/odd"
+expect 'relay: sends the message to mail.example.com, over the TLS connection whose certificate passed' relay "$files/odd"
+printf 'clock 1\nnext-hop example..com\nmx secure\nhost 10 mail.example.com\naddress secure\n' >"$files/hop"
+expect '  library 60: refused: bad next-hop name' relay "$files/hop"
 printf 'clock 1\nnext-hop example.com\nmx insecure\nhost 10 mail.example.com\naddress insecure\n' >"$files/silent"
-expect "relay: the scenario doesn't say it" relay "$files/silent"
+expect "relay: the scenario doesn't say it of mail.example.com" relay "$files/silent"
 
 # RFC 8461, 3.1 and 3.2
 domain=examples/domain

@@ -575,7 +575,7 @@ pub fn facts_fit(
 }
 
 // Whether the number is a yes or a no.
-fn is_yes_no(n: u64) -> bool
+pub fn is_yes_no(n: u64) -> bool
     ensures { λ r. ⌜ r ≡ yesNo n ⌝ }
 {
     n == 1 || n == 2

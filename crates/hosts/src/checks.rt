@@ -6,7 +6,7 @@ ghost use lib.Dec.{eqb};
 ghost use Rattle.lists.specs.Bytes.{within};
 ghost use Rattle.clock.specs.Clock.{isReading};
 ghost use Rattle.tlsa.specs.Answer.{answerFits};
-ghost use Rattle.certificates.specs.Limits.{yesNo, factsFit};
+ghost use Rattle.certificates.specs.Limits.{factsFit};
 ghost use Rattle.hosts.specs.Arguments.{lookupOf};
 ghost use Rattle.hosts.specs.Call.{ifSupplied, hostFits, hostNamesFit};
 ghost use Rattle.hosts.specs.Stages.{baseCodesFit, laterCodesFit, certificateCodesFit, firstPart, lastPart, firstRefusal, lastRefusal};
@@ -22,13 +22,6 @@ fn is_within(low: u64, high: u64, code: u64) -> bool
         return false;
     }
     code <= high
-}
-
-// Whether the number is a yes or a no.
-fn is_yes_no(number: u64) -> bool
-    ensures { λ r. ⌜ r ≡ yesNo number ⌝ }
-{
-    number == 1 || number == 2
 }
 
 // Whether the result of a TLSA lookup, if it is supplied, is one of its choices.
@@ -92,11 +85,11 @@ fn certificate_codes_fit(n: Numbers, paths: &[u8]) -> bool
     if !all {
         return false;
     }
-    let root = is_yes_no(n.trusted_root);
+    let root = certificates::is_yes_no(n.trusted_root);
     if !root {
         return false;
     }
-    is_yes_no(n.common_name_given)
+    certificates::is_yes_no(n.common_name_given)
 }
 
 // 67: whether every code and yes/no number is among its choices.

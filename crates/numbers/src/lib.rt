@@ -1,12 +1,12 @@
 // Lists of four-byte numbers, the highest byte first, and the pieces that such a list of lengths cuts.
 ghost use mathlib.Core.Path.{_≡_};
 ghost use mathlib.Core.Bool.{cond, _&&_};
-ghost use Prim.Native.Nat.{_*_, _+_, _<_, _≤_};
+ghost use Prim.Native.Nat.{_*_, _+_, _<_};
 ghost use lib.Dec.{ltb};
 ghost use lib.ListN.{length, getD, take, drop};
 ghost use Rattle.lists.specs.Bytes.{all};
 ghost use Rattle.numbers.specs.Numbers.{numbers, isWhole, atMost};
-ghost use Rattle.numbers.specs.Pieces.{cut, sumsTo, endOf};
+ghost use Rattle.numbers.specs.Pieces.{sumsTo, endOf};
 
 // Whether the list has no left-over bytes.
 pub fn is_whole(list: &[u8]) -> bool
