@@ -7,6 +7,7 @@
 #             header, archive, pkg-config file and man page
 # make clean  removes what the others made
 
+SHELL = /bin/bash
 RT ?= rt
 CC ?= cc
 CXX ?= c++
@@ -20,7 +21,7 @@ SECONDS ?= 60
 ARCHIVE = target/staticlib/libtweedstork.a
 OUT = target/c
 
-.PHONY: all run test bench fuzz install clean toolchain archive examples
+.PHONY: all run test c-tests bench fuzz install clean toolchain archive examples
 all: archive
 
 toolchain:
@@ -41,8 +42,16 @@ run: examples
 	@echo; $(OUT)/discover examples/domain/records.txt examples/domain/policy.txt
 	@echo; $(OUT)/relay examples/scenarios/*.txt
 
-# The C tests and the independent implementation, then the layout of the source, then the proofs, the must-fail edits and the cases.
-test: examples
+# The proofs, the must-fail edits and the cases first, since the archive is then built of what they proved; then the tests in C
+# and the independent implementation. The last line is rt's once more, so that it comes only where all of them passed.
+test: toolchain
+	$(RT) fmt --check
+	@set -o pipefail; log=$$(mktemp); echo '$(RT) ci'; $(RT) ci 2>&1 | tee "$$log" || { rm -f "$$log"; exit 1; }; \
+	    mkdir -p $(OUT) && mv "$$log" $(OUT)/ci.log
+	@$(MAKE) --no-print-directory c-tests
+	@tail -n 1 $(OUT)/ci.log
+
+c-tests: examples
 	@echo '#include "tweedstork.h"' | $(CC) $(WARNINGS) -Iinclude -x c -fsyntax-only -
 	@echo '#include "tweedstork.h"' | $(CXX) -Wall -Wextra -Wpedantic -Werror -Iinclude -x c++ -fsyntax-only -
 	@$(CC) $(CFLAGS) $(WARNINGS) $(SANITIZERS) -Iinclude tests/conveniences.c -o $(OUT)/conveniences
@@ -52,8 +61,6 @@ test: examples
 	tests/examples.sh $(OUT)
 	CC='$(CC)' tests/install.sh $(ARCHIVE)
 	tests/independent/run target/staticlib $(OUT)/independent
-	$(RT) fmt --check
-	$(RT) ci
 
 bench: archive
 	CC='$(CC)' bench/run target/staticlib $(OUT)/bench
