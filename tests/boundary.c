@@ -8,19 +8,8 @@
 #include <stdlib.h>
 #include <string.h>
 
+#include "expect.h"
 #include "tweedstork.h"
-
-static unsigned passed, failed;
-
-static void expect(const char *name, int holds)
-{
-    if (holds) {
-        passed++;
-    } else {
-        failed++;
-        printf("%s: failed\n", name);
-    }
-}
 
 /* A list of numbers in memory of just its size, so that a sanitizer sees any byte read past it. */
 struct list {

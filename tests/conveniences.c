@@ -6,19 +6,8 @@
 #include <stdio.h>
 #include <string.h>
 
+#include "expect.h"
 #include "tweedstork.h"
-
-static unsigned passed, failed;
-
-static void expect(const char *name, int holds)
-{
-    if (holds) {
-        passed++;
-    } else {
-        failed++;
-        printf("%s: failed\n", name);
-    }
-}
 
 static struct tweedstork_host_facts noted;
 
