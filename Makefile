@@ -1,6 +1,7 @@
 # make run    builds the library and shows it at work
 # make test   runs every test; its last line is rt's 'N passed, M failed'
-# make bench  measures against plain C and Rust; fails where a promise on speed is broken
+# make bench  measures against plain C and Rust, and writes docs/PERFORMANCE.md anew; where a promise on speed is broken it fails
+#             and leaves the file as it was
 # make fuzz SECONDS=60
 #             fuzzes each call against the independent implementation
 # make install PREFIX=/usr/local
@@ -63,7 +64,7 @@ c-tests: examples
 	tests/independent/run target/staticlib $(OUT)/independent
 
 bench: archive
-	CC='$(CC)' bench/run target/staticlib $(OUT)/bench
+	CC='$(CC)' bench/run target/staticlib $(OUT)/bench --write docs/PERFORMANCE.md
 
 # libFuzzer: Debian's packages clang and libclang-rt-14-dev.
 fuzz: archive

@@ -8,12 +8,28 @@
 #include <inttypes.h>
 #include <stdio.h>
 #include <stdlib.h>
+#include <string.h>
 
 #include "measure.h"
 
-/* The house's promises: instructions against plain C's, and stack, on every input. */
-static const double promised_ratio = 1.5;
+/* The house's promise on stack, on every input. */
 enum { PROMISED_STACK = 16 * 1024 };
+
+/* The house's promises on instructions against plain C's: on an input the last that fits it, so all but the first are exceptions. */
+static const struct promise {
+    enum table table;  /* TABLES: every table */
+    const char *input; /* its whole name; NULL: every input of the table */
+    double ratio;
+    const char *rows, *reason;
+} promises[] = {
+    {TABLES, NULL, 1.1, "every row but those below", "the aim is 1.0"},
+    {DNS_IDS, NULL, 1.5, "DNS-IDs", "until names are compared as document 02, No. 4 asks: lengths first, then byte pairs from the right"},
+    {HOSTS, NULL, 1.5, "hosts of a message",
+     "document 01 names the form of that walk, arrays of 32 by value with a count: the library reads the lists into arrays and walks those, plain C walks the lists themselves"},
+    {DECISIONS, whole_certificate_decision, 1.5, "the decision with a whole certificate (record 3 0 0 of 1.5 KB)",
+     "plain C calls the C library's `memcmp`, chosen by the processor, which compares 32 bytes an instruction; the archive calls nothing outside itself"},
+};
+enum { PROMISES = sizeof promises / sizeof promises[0] };
 
 /* For the share of a delivery: TCP's handshake, EHLO, STARTTLS and TLS 1.3's handshake, with a server that is near. */
 static const double round_trips = 4, round_trip_seconds = 0.001;
@@ -23,9 +39,8 @@ struct results {
     uint64_t instructions[MAX_INPUTS][IMPLEMENTATIONS];
     uint64_t clang[MAX_INPUTS][IMPLEMENTATIONS];
     int has_clang;
-    double nanoseconds[MAX_INPUTS][IMPLEMENTATIONS];
+    struct times times[MAX_INPUTS];
     size_t stack[MAX_INPUTS];
-    double decisions[MAX_INPUTS][MAX_THREADS];
 };
 
 static const struct {
@@ -33,11 +48,11 @@ static const struct {
 } tables[TABLES] = {
     [CALLS] = {"## Single calls", "Input"},
     [DECISIONS] = {"## Whole decisions: every call, from the first question to the verdict", "Decision"},
-    [LAST_RECORD_MATCHES] = {"### TLSA records 2 1 1, 8 certificates, the last record matches the last certificate", "Records"},
-    [NO_RECORD_MATCHES] = {"### TLSA records 2 1 1, 8 certificates, none matches", "Records"},
+    [LAST_RECORD_MATCHES] = {"### TLSA records 2 1 1, 8 certificates, the last record matches the last certificate", "Records, the last matches"},
+    [NO_RECORD_MATCHES] = {"### TLSA records 2 1 1, 8 certificates, none matches", "Records, none matches"},
     [CERTIFICATES] = {"### Certificates of 1.5 KB, a record 2 1 1 that matches none", "Certificates"},
-    [POLICY_BYTES] = {"### Bytes of a policy, mx lines", "Bytes"},
-    [TXT_BYTES] = {"### Bytes of a TXT record, fields of 32 bytes", "Bytes"},
+    [POLICY_BYTES] = {"### Bytes of a policy, mx lines", "Bytes of a policy"},
+    [TXT_BYTES] = {"### Bytes of a TXT record, fields of 32 bytes", "Bytes of a TXT record"},
     [DNS_IDS] = {"### DNS-IDs, a host with a policy of 63 bytes; the last is the host", "DNS-IDs"},
     [HOSTS] = {"### Hosts of a message; the one that decides is the last to be looked at", "Hosts"},
 };
@@ -69,11 +84,31 @@ static void read_counts(const char *path, const struct inputs *inputs, uint64_t 
 static void measure(struct results *r, struct inputs *const *inputs)
 {
     for (size_t i = 0; i < r->inputs->count; i++) {
-        measure_times(&r->inputs->at[i], r->nanoseconds[i]);
+        measure_times(inputs, i, &r->times[i]);
         r->stack[i] = measure_stack(&r->inputs->at[i]);
-        for (size_t threads = 1; r->inputs->at[i].table == DECISIONS && threads <= MAX_THREADS; threads++)
-            r->decisions[i][threads - 1] = measure_decisions(inputs, threads, i);
     }
+}
+
+/* The library's instructions against another's. */
+static double ratio(const struct results *r, size_t i, size_t against)
+{
+    return (double)r->instructions[i][LIBRARY] / (double)r->instructions[i][against];
+}
+
+static const struct promise *promise_on(const struct input *input)
+{
+    const struct promise *found = promises;
+
+    for (const struct promise *p = promises + 1; p < promises + PROMISES; p++)
+        if (p->table == input->table && (p->input == NULL || strcmp(p->input, input->name) == 0))
+            found = p;
+    return found;
+}
+
+/* Decisions per second, where so many threads have each made one after that time. */
+static double per_second(size_t threads, double nanoseconds)
+{
+    return 1e9 * (double)threads / nanoseconds;
 }
 
 /* ---- printing ---- */
@@ -99,7 +134,16 @@ static void print_costs(const double costs[IMPLEMENTATIONS])
 {
     for (size_t k = 0; k < IMPLEMENTATIONS; k++)
         print_cell(costs[k]);
-    printf(" %.2f | %.2f |", costs[LIBRARY] / costs[PLAIN_C], costs[LIBRARY] / costs[RUST]);
+    printf(" %.2f | %.2f |", costs[LIBRARY] / costs[RUST], costs[LIBRARY] / costs[PLAIN_C]);
+}
+
+/* What is promised of the ratio in the cell before; an exception stands out. */
+static void print_promise(const struct input *input)
+{
+    const struct promise *p = promise_on(input);
+    const char *mark = p == promises ? "" : "**";
+
+    printf(" %s%.1f%s |", mark, p->ratio, mark);
 }
 
 static void print_row(const struct results *r, size_t i)
@@ -110,7 +154,8 @@ static void print_row(const struct results *r, size_t i)
         instructions[k] = (double)r->instructions[i][k];
     printf("| %s |", r->inputs->at[i].name);
     print_costs(instructions);
-    print_costs(r->nanoseconds[i]);
+    print_promise(&r->inputs->at[i]);
+    print_costs(r->times[i].alone);
     printf("\n");
 }
 
@@ -134,9 +179,9 @@ static void print_growth(const struct results *r, enum table table)
 
 static void print_table(const struct results *r, enum table table)
 {
-    printf("\n%s\n\n| %s | instructions: library | C | Rust | library / C | library / Rust | ns: library | C | Rust | library / C | library / Rust |\n",
+    printf("\n%s\n\n| %s | instructions: library | C | Rust | library / Rust | library / C | at most | ns, not judged: library | C | Rust | library / Rust | library / C |\n",
            tables[table].title, tables[table].column);
-    printf("|---|--:|--:|--:|--:|--:|--:|--:|--:|--:|--:|\n");
+    printf("|---|--:|--:|--:|--:|--:|--:|--:|--:|--:|--:|--:|\n");
     for (size_t i = 0; i < r->inputs->count; i++)
         if (r->inputs->at[i].table == table)
             print_row(r, i);
@@ -144,17 +189,33 @@ static void print_table(const struct results *r, enum table table)
         print_growth(r, table);
 }
 
-/* The least and the largest ratio of instructions over all inputs. */
-static void print_range(const struct results *r, size_t against)
+/* The least and the largest ratio of instructions over the inputs of a promise. */
+static void print_range(const struct results *r, const struct promise *promise, size_t against)
 {
     double least = 0, most = 0;
 
-    for (size_t i = 0; i < r->inputs->count; i++) {
-        double ratio = (double)r->instructions[i][LIBRARY] / (double)r->instructions[i][against];
-        least = least == 0 || ratio < least ? ratio : least;
-        most = ratio > most ? ratio : most;
+    for (size_t i = 0; i < r->inputs->count; i++)
+        if (promise_on(&r->inputs->at[i]) == promise) {
+            double one = ratio(r, i, against);
+            least = least == 0 || one < least ? one : least;
+            most = one > most ? one : most;
+        }
+    if (least == most)
+        printf(" %.2f |", most);
+    else
+        printf(" %.2f to %.2f |", least, most);
+}
+
+static void print_promises(const struct results *r)
+{
+    printf("\n## The promise on instructions\n\n| Rows | library / Rust | library / C | at most | Note |\n|---|--:|--:|--:|---|\n");
+    for (const struct promise *p = promises; p < promises + PROMISES; p++) {
+        printf("| %s |", p->rows);
+        print_range(r, p, RUST);
+        print_range(r, p, PLAIN_C);
+        printf(" %.1f | %s |\n", p->ratio, p->reason);
     }
-    printf("%.2f to %.2f times", least, most);
+    printf("\nIn the tables below, \"at most\" is what is promised of the ratio before it, an exception's in bold. Nothing is judged by the nanoseconds.\n");
 }
 
 static double share(double nanoseconds)
@@ -164,31 +225,31 @@ static double share(double nanoseconds)
 
 static void print_summary(const struct results *r)
 {
-    size_t dane = (size_t)(first_input(r->inputs, DECISIONS) - r->inputs->at), mta_sts = dane + 1;
+    size_t first = (size_t)(first_input(r->inputs, DECISIONS) - r->inputs->at);
+    double dane = r->times[first].alone[LIBRARY], mta_sts = r->times[first + 1].alone[LIBRARY];
 
-    printf("A whole decision on a host takes %.2f µs with DANE and %.2f µs with MTA-STS: ", r->nanoseconds[dane][LIBRARY] / 1000, r->nanoseconds[mta_sts][LIBRARY] / 1000);
-    print_number(r->decisions[dane][0]);
+    printf("A whole decision on a host takes %.3f µs with DANE and %.3f µs with MTA-STS: ", dane / 1000, mta_sts / 1000);
+    print_number(per_second(1, dane));
     printf(" and ");
-    print_number(r->decisions[mta_sts][0]);
-    printf(" decisions per second on one core.\n");
+    print_number(per_second(1, mta_sts));
+    printf(" decisions per second on one thread.\n");
     printf("To a server %.0f ms away, whose connection and TLS handshake take %.0f round trips, that is %.3f %% and %.3f %% of the wait before the message can be sent.\n",
-           1000 * round_trip_seconds, round_trips, share(r->nanoseconds[dane][LIBRARY]), share(r->nanoseconds[mta_sts][LIBRARY]));
-    printf("On the inputs below the library executes ");
-    print_range(r, PLAIN_C);
-    printf(" the instructions of plain C with the same checks (promise: at most %.1f), and ", promised_ratio);
-    print_range(r, RUST);
-    printf(" those of Rust.\n");
+           1000 * round_trip_seconds, round_trips, share(dane), share(mta_sts));
 }
 
 static void print_decisions(const struct results *r)
 {
-    printf("\n## Decisions per second of the library\n\n| Decision | one thread | two threads | two / one |\n|---|--:|--:|--:|\n");
+    printf("\n## Decisions per second of the library\n\n");
+    printf("| Decision | ns, not judged: one thread | each of two threads | decisions per second: one thread | two threads | two / one |\n|---|--:|--:|--:|--:|--:|\n");
     for (size_t i = 0; i < r->inputs->count; i++)
         if (r->inputs->at[i].table == DECISIONS) {
+            double alone = r->times[i].alone[LIBRARY], together = r->times[i].together;
             printf("| %s |", r->inputs->at[i].name);
-            print_cell(r->decisions[i][0]);
-            print_cell(r->decisions[i][1]);
-            printf(" %.2f |\n", r->decisions[i][1] / r->decisions[i][0]);
+            print_cell(alone);
+            print_cell(together);
+            print_cell(per_second(1, alone));
+            print_cell(per_second(THREADS, together));
+            printf(" %.2f |\n", per_second(THREADS, together) / per_second(1, alone));
         }
 }
 
@@ -217,21 +278,25 @@ static void print_stack(const struct results *r)
 
 static void print_clang(const struct results *r)
 {
-    printf("\n## Plain C by gcc and by clang, both -O2\n\n| Input | instructions: library | C, gcc | C, clang | library / gcc | library / clang |\n|---|--:|--:|--:|--:|--:|\n");
+    printf("\n## Plain C by gcc and by clang, both -O2\n\n");
+    printf("| Input | instructions: library | C, gcc | C, clang | library / gcc | at most | library / clang, not judged |\n|---|--:|--:|--:|--:|--:|--:|\n");
     for (size_t i = 0; i < r->inputs->count; i++)
         if (r->inputs->at[i].table == CALLS || r->inputs->at[i].table == DECISIONS) {
-            double library = (double)r->instructions[i][LIBRARY], gcc = (double)r->instructions[i][PLAIN_C], clang = (double)r->clang[i][PLAIN_C];
+            double library = (double)r->instructions[i][LIBRARY], clang = (double)r->clang[i][PLAIN_C];
             printf("| %s |", r->inputs->at[i].name);
             print_cell(library);
-            print_cell(gcc);
+            print_cell((double)r->instructions[i][PLAIN_C]);
             print_cell(clang);
-            printf(" %.2f | %.2f |\n", library / gcc, library / clang);
+            printf(" %.2f |", ratio(r, i, PLAIN_C));
+            print_promise(&r->inputs->at[i]);
+            printf(" %.2f |\n", library / clang);
         }
 }
 
 static void print_results(const struct results *r)
 {
     print_summary(r);
+    print_promises(r);
     print_table(r, CALLS);
     print_table(r, DECISIONS);
     print_decisions(r);
@@ -258,9 +323,9 @@ static int keeps_promises(const struct results *r)
 
     for (size_t i = 0; i < r->inputs->count; i++) {
         const struct input *input = &r->inputs->at[i];
-        double ratio = (double)r->instructions[i][LIBRARY] / (double)r->instructions[i][PLAIN_C];
-        if (ratio > promised_ratio)
-            say_broken(&broken, input, ratio, "times plain C's instructions", promised_ratio);
+        double found = ratio(r, i, PLAIN_C), promised = promise_on(input)->ratio;
+        if (found > promised)
+            say_broken(&broken, input, found, "times plain C's instructions", promised);
         if (r->stack[i] > PROMISED_STACK)
             say_broken(&broken, input, (double)r->stack[i], "bytes of stack", PROMISED_STACK);
     }
@@ -272,13 +337,13 @@ static int keeps_promises(const struct results *r)
 int main(int argc, char **argv)
 {
     static struct results results;
-    struct inputs *inputs[MAX_THREADS];
+    struct inputs *inputs[THREADS];
 
     if (argc != 2 && argc != 3) {
         fprintf(stderr, "usage: bench COUNTS [COUNTS-CLANG] (bench/run makes both)\n");
         return 2;
     }
-    for (size_t i = 0; i < MAX_THREADS; i++)
+    for (size_t i = 0; i < THREADS; i++)
         inputs[i] = build_inputs();
     if (!check_answers(inputs[0]))
         return 1;

@@ -67,6 +67,17 @@ static struct bytes part(struct bytes b, size_t start, size_t length)
     return (struct bytes){b.at + start, length};
 }
 
+/* The head, then count times the piece. */
+static struct bytes repeated(struct bytes head, struct bytes piece, size_t count)
+{
+    struct bytes b = room(head.length + count * piece.length);
+
+    memcpy(b.at, head.at, head.length);
+    for (size_t i = 0; i < count; i++)
+        memcpy(b.at + head.length + i * piece.length, piece.at, piece.length);
+    return b;
+}
+
 /* ---- the list of inputs ---- */
 
 static struct input *add(struct inputs *inputs, enum table table, enum call call, const char *name)
@@ -142,6 +153,20 @@ static void make_long_value_policy(struct input *input, size_t size)
     expect(input, 0, TWEEDSTORK_POLICY_ACCEPTED, TWEEDSTORK_ENFORCE, MAX_AGE, 1);
 }
 
+/* Policies of 4 KB with little to read at a time: values of 1 to 5 letters, and labels of one. */
+static void add_short_policies(struct inputs *inputs)
+{
+    static const char fields[] = "a:b\nc:de\nf:ghi\nj:klmn\no:pqrst\n", names[] = "mx: a.b\nmx: *.c.d.e\nmx: f.g.h.i.j.k.l.m\n";
+    enum { FIELD_PIECES = 134, NAME_PIECES = 100 };
+    struct input *input = add(inputs, CALLS, READ_POLICY, "policy of 4 KB, 670 further fields of 4 to 8 bytes");
+
+    input->first = repeated(text(small_policy), text(fields), FIELD_PIECES);
+    expect(input, 0, TWEEDSTORK_POLICY_ACCEPTED, TWEEDSTORK_ENFORCE, MAX_AGE, 1);
+    input = add(inputs, CALLS, READ_POLICY, "policy of 4 KB, 300 mx lines with labels of one letter");
+    input->first = repeated(text(policy_head), text(names), NAME_PIECES);
+    expect(input, 0, TWEEDSTORK_POLICY_ACCEPTED, TWEEDSTORK_ENFORCE, MAX_AGE, 3 * NAME_PIECES);
+}
+
 static void add_policies(struct inputs *inputs)
 {
     struct input *input = add(inputs, CALLS, READ_POLICY, "policy of 4 lines, 63 bytes");
@@ -150,6 +175,7 @@ static void add_policies(struct inputs *inputs)
     expect(input, 0, TWEEDSTORK_POLICY_ACCEPTED, TWEEDSTORK_ENFORCE, MAX_AGE, 1);
     make_mx_policy(add(inputs, CALLS, READ_POLICY, "policy of 64 KiB, mx lines"), 65536);
     make_long_value_policy(add(inputs, CALLS, READ_POLICY, "policy of 64 KiB, one long value"), 65536);
+    add_short_policies(inputs);
     for (size_t size = 64; size <= 65536; size *= 4)
         make_mx_policy(add_counted(inputs, POLICY_BYTES, READ_POLICY, size), size);
 }
@@ -218,12 +244,15 @@ static void add_txt(struct inputs *inputs)
         "v=DMARC1; p=reject; rua=mailto:reports@example.com", "owner: the mail team of example.com"};
     enum { RECORDS = 21, OTHERS = sizeof others / sizeof others[0] };
     struct bytes records[RECORDS], one = text(rfc_record), kib4 = long_record(4096);
+    struct bytes front = part(one, 0, one.length - 1), fields = text(";a=b;c=de;f=ghi;j=klmn;o=pqrst;u=vwxyzA;B=CDEFGHI");
+    struct bytes short_values = repeated(front, fields, 83);
 
     for (size_t i = 0; i + 1 < RECORDS; i++)
         records[i] = text(others[i % OTHERS]);
     records[RECORDS - 1] = one;
     make_txt(add(inputs, CALLS, READ_TXT, "TXT record of RFC 8461, 28 bytes"), &one, 1);
     make_txt(add(inputs, CALLS, READ_TXT, "TXT record of 4 KiB, 128 fields"), &kib4, 1);
+    make_txt(add(inputs, CALLS, READ_TXT, "TXT record of 4 KB, 581 further fields with values of 1 to 7 letters"), &short_values, 1);
     make_txt(add(inputs, CALLS, READ_TXT, "21 TXT records, the last is MTA-STS's"), records, RECORDS);
     /* An RDATA has at most 65,535 bytes, so the series ends just below 64 KiB. */
     for (size_t size = 64; size <= 65536; size *= 4) {
@@ -359,6 +388,8 @@ static void make_decision(struct input *input, struct facts f, uint64_t verdict)
     expect(input, step, TWEEDSTORK_ASK_TLSA_HOST, 0, 0, 0);
 }
 
+const char whole_certificate_decision[] = "DANE: 5 calls, 1 record 3 0 0 (1.5 KB), 3 certificates";
+
 static void add_decisions(struct inputs *inputs)
 {
     struct facts f = facts_with(3);
@@ -371,7 +402,7 @@ static void add_decisions(struct inputs *inputs)
     make_decision(add(inputs, DECISIONS, JUDGE_HOST, "MTA-STS: 4 calls, policy of 63 bytes, 3 certificates"), f, TWEEDSTORK_MTA_STS);
     f = facts_with(3);
     give_whole_leaf(&f);
-    make_decision(add(inputs, DECISIONS, JUDGE_HOST, "DANE: 5 calls, 1 record 3 0 0 (1.5 KB), 3 certificates"), f, TWEEDSTORK_DANE);
+    make_decision(add(inputs, DECISIONS, JUDGE_HOST, whole_certificate_decision), f, TWEEDSTORK_DANE);
 }
 
 /* ---- growth ---- */

@@ -67,6 +67,9 @@ struct inputs {
 /* New inputs, in memory that no other inputs share. */
 struct inputs *build_inputs(void);
 
+/* The name of the decision by a TLSA record that is a whole certificate. */
+extern const char whole_certificate_decision[];
+
 /* The first input of a table. */
 const struct input *first_input(const struct inputs *inputs, enum table table);
 

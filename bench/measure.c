@@ -9,8 +9,7 @@
 
 /* A turn has to be long against the clock's steps and what the machine does beside. */
 static const double turn_seconds = 0.010;
-static const double decisions_seconds = 0.2;
-enum { TURNS = 7, DECISION_TURNS = 5 };
+enum { TURNS = 7 };
 
 /* The answers flow into it, so that no call can be left out. */
 static volatile uint64_t sink;
@@ -33,39 +32,101 @@ static void stop_unless(int holds, const char *what)
 
 /* ---- times ---- */
 
-static double seconds_for(const struct implementation *implementation, const struct input *input, size_t rounds)
+/* So many rounds of an input's calls, on one thread. */
+struct turn {
+    const struct implementation *implementation;
+    const struct input *input;
+    size_t rounds;
+    pthread_barrier_t *barrier; /* what the threads of a turn start at */
+    double start, end;
+    uint64_t sum;
+};
+
+static void run(struct turn *turn)
 {
-    double start = now();
     uint64_t sum = 0;
 
-    for (size_t i = 0; i < rounds; i++)
-        sum += make_calls(implementation, input);
-    sink = sum;
-    return now() - start;
+    turn->start = now();
+    for (size_t i = 0; i < turn->rounds; i++)
+        sum += make_calls(turn->implementation, turn->input);
+    turn->end = now();
+    turn->sum = sum;
+}
+
+static double seconds_alone(const struct implementation *implementation, const struct input *input, size_t rounds)
+{
+    struct turn turn = {implementation, input, rounds, NULL, 0, 0, 0};
+
+    run(&turn);
+    sink = turn.sum;
+    return turn.end - turn.start;
+}
+
+static void *run_at_barrier(void *argument)
+{
+    struct turn *turn = argument;
+
+    pthread_barrier_wait(turn->barrier);
+    run(turn);
+    return NULL;
+}
+
+/* The same turn of the library on every thread: the time from the first start to the last end. */
+static double seconds_together(struct inputs *const inputs[THREADS], size_t i, size_t rounds)
+{
+    pthread_t ids[THREADS];
+    struct turn turns[THREADS];
+    pthread_barrier_t barrier;
+    double start = 0, end = 0;
+
+    stop_unless(pthread_barrier_init(&barrier, NULL, THREADS) == 0, "cannot make a barrier");
+    for (size_t k = 0; k < THREADS; k++) {
+        turns[k] = (struct turn){&implementations[LIBRARY], &inputs[k]->at[i], rounds, &barrier, 0, 0, 0};
+        stop_unless(pthread_create(&ids[k], NULL, run_at_barrier, &turns[k]) == 0, "cannot start a thread");
+    }
+    for (size_t k = 0; k < THREADS; k++) {
+        stop_unless(pthread_join(ids[k], NULL) == 0, "cannot wait for a thread");
+        start = k == 0 || turns[k].start < start ? turns[k].start : start;
+        end = k == 0 || turns[k].end > end ? turns[k].end : end;
+        sink = turns[k].sum;
+    }
+    pthread_barrier_destroy(&barrier);
+    return end - start;
 }
 
 /* How many rounds make a turn? */
-static size_t rounds_for(const struct implementation *implementation, const struct input *input, double seconds)
+static size_t rounds_for(const struct implementation *implementation, const struct input *input)
 {
     size_t rounds = 1;
 
-    while (seconds_for(implementation, input, rounds) < seconds)
+    while (seconds_alone(implementation, input, rounds) < turn_seconds)
         rounds *= 2;
     return rounds;
 }
 
-void measure_times(const struct input *input, double nanoseconds[IMPLEMENTATIONS])
+/* Zero: nothing is kept yet. */
+static void keep_least(double *least, double seconds, size_t rounds)
 {
+    double one = 1e9 * seconds / (double)rounds;
+
+    if (*least == 0 || one < *least)
+        *least = one;
+}
+
+void measure_times(struct inputs *const inputs[THREADS], size_t i, struct times *times)
+{
+    const struct input *input = &inputs[0]->at[i];
     size_t rounds[IMPLEMENTATIONS];
 
+    *times = (struct times){{0}, 0};
     for (size_t k = 0; k < IMPLEMENTATIONS; k++)
-        rounds[k] = rounds_for(&implementations[k], input, turn_seconds);
-    for (size_t turn = 0; turn < TURNS; turn++)
-        for (size_t k = 0; k < IMPLEMENTATIONS; k++) {
-            double one = 1e9 * seconds_for(&implementations[k], input, rounds[k]) / (double)rounds[k];
-            if (turn == 0 || one < nanoseconds[k])
-                nanoseconds[k] = one;
-        }
+        rounds[k] = rounds_for(&implementations[k], input);
+    for (size_t turn = 0; turn < TURNS; turn++) {
+        for (size_t k = 0; k < IMPLEMENTATIONS; k++)
+            keep_least(&times->alone[k], seconds_alone(&implementations[k], input, rounds[k]), rounds[k]);
+        if (input->table == DECISIONS)
+            keep_least(&times->together, seconds_together(inputs, i, rounds[LIBRARY]), rounds[LIBRARY]);
+    }
 }
 
 /* ---- stack ---- */
@@ -110,62 +171,4 @@ size_t measure_stack(const struct input *input)
     pthread_attr_destroy(&attributes);
     free(stack);
     return turn.touched;
-}
-
-/* ---- decisions per second ---- */
-
-struct decisions_turn {
-    const struct input *input;
-    size_t rounds;
-    pthread_barrier_t *barrier;
-    double start, end;
-};
-
-static void *decide(void *argument)
-{
-    struct decisions_turn *turn = argument;
-    uint64_t sum = 0;
-
-    pthread_barrier_wait(turn->barrier);
-    turn->start = now();
-    for (size_t i = 0; i < turn->rounds; i++)
-        sum += make_calls(&implementations[LIBRARY], turn->input);
-    turn->end = now();
-    sink = sum;
-    return NULL;
-}
-
-/* All threads decide as often; the time is from the first start to the last end. */
-static double decisions_once(struct inputs *const *inputs, size_t threads, size_t decision, size_t rounds)
-{
-    pthread_t ids[MAX_THREADS];
-    struct decisions_turn turns[MAX_THREADS];
-    pthread_barrier_t barrier;
-
-    stop_unless(pthread_barrier_init(&barrier, NULL, (unsigned)threads) == 0, "cannot make a barrier");
-    for (size_t i = 0; i < threads; i++) {
-        turns[i] = (struct decisions_turn){&inputs[i]->at[decision], rounds, &barrier, 0, 0};
-        stop_unless(pthread_create(&ids[i], NULL, decide, &turns[i]) == 0, "cannot start a thread");
-    }
-    for (size_t i = 0; i < threads; i++)
-        stop_unless(pthread_join(ids[i], NULL) == 0, "cannot wait for a thread");
-    pthread_barrier_destroy(&barrier);
-    double start = turns[0].start, end = turns[0].end;
-    for (size_t i = 1; i < threads; i++) {
-        start = turns[i].start < start ? turns[i].start : start;
-        end = turns[i].end > end ? turns[i].end : end;
-    }
-    return (double)(threads * rounds) / (end - start);
-}
-
-double measure_decisions(struct inputs *const *inputs, size_t threads, size_t decision)
-{
-    size_t rounds = rounds_for(&implementations[LIBRARY], &inputs[0]->at[decision], decisions_seconds);
-    double most = 0;
-
-    for (size_t turn = 0; turn < DECISION_TURNS; turn++) {
-        double once = decisions_once(inputs, threads, decision, rounds);
-        most = once > most ? once : most;
-    }
-    return most;
 }
