@@ -132,10 +132,10 @@ fn is_compared(held: &[u8], selector: u8, k: usize, certificate: &[u8], places: 
     ensures { λ r. ⌜ r ≡ sameBytes (now (held .entry)) (compared selector 0 (certificateAt (now (places .entry)) [] [] k (now (certificate .entry)))) ⌝ }
 {
     if selector == 0 {
-        return lists::equal(held, certificate);
+        return lists::equal_long(held, certificate);
     }
     let info = key_info_at(k, certificate, places);
-    lists::equal(held, info)
+    lists::equal_long(held, info)
 }
 
 // Whether the record, of matching type 0, matches the certificate at place k. No path flag is read.

@@ -1,4 +1,5 @@
 pub mod Letter
+pub mod Lettered
 pub mod Name
 pub mod Blank
 mod Worked

@@ -8,3 +8,5 @@ pub mod Every
 pub mod Span
 pub mod Write
 pub mod Words
+pub mod Lanes
+pub mod Marks

@@ -1,5 +1,5 @@
 -- Lists of bytes compared as numbers, eight bytes at a time: the laws, and the turn of a loop. Assumes nothing.
-use Prim.Native.Nat.{ℕ, zero, suc, _+_, _*_, _<_, _≤_}
+use Prim.Native.Nat.{ℕ, zero, suc, _+_, _-_, _*_, _<_, _≤_}
 use mathlib.Core.Path.{_≡_, refl, sym, _∙_}
 use mathlib.Core.Bool.{Bool, true, false, _&&_, and-assoc}
 use mathlib.Core.List.{List, [], _∷_}
@@ -7,14 +7,15 @@ use native.Mathlib.Nat.{add-zero}
 use native.Mathlib.Omega.{arith}
 use lib.Dec.{eqb, leb}
 use lib.ListN.{length, getD, take, drop, length-drop}
-use lib.Seq.{getD-drop, drop-drop}
+use lib.Seq.{getD-drop, drop-drop, take-take}
 use borrow.Author.Needs.{needs}
-use borrow.Author.Tests.{not-true, not-false, eq-eqb, ne-eqb, eqb-true, le-leb, leb-true}
+use borrow.Author.Tests.{not-true, not-false, eq-eqb, ne-eqb, eqb-true, lt-leb, le-leb, leb-true}
 use Rattle.lists.specs.Bytes.{all, isBytes}
 use Rattle.lists.specs.Equal.{agree, sameByte, sameLetter}
-use Rattle.lists.specs.Words.{numberOf, eightAt}
+use Rattle.lists.specs.Words.{numberOf, eightAt, firstEight}
 use Rattle.lists.proofs.Agree.{agree-length, letter-same}
 use Rattle.lists.proofs.Bools.{apart, and-left, and-right}
+use Rattle.lists.proofs.Laws.{drop-take, take-rest, part-length}
 
 -- the first eight of a list
 front-eight : (u : List ℕ) → 8 ≤ length u → take 8 u ≡ getD u 0 0 ∷ getD u 1 0 ∷ getD u 2 0 ∷ getD u 3 0 ∷ getD u 4 0 ∷ getD u 5 0 ∷ getD u 6 0 ∷ getD u 7 0 ∷ []
@@ -89,14 +90,6 @@ eight-same a b i x y ka kb px ha py hb =
     let l : length (eightAt a i) ≡ length (eightAt b i) = rw (eight-is a i ka, eight-is b i kb) refl in
     rw (px, py) (numbers-same (eightAt a i) (eightAt b i) l ha hb)
 
--- a turn of the loop, and its ends: r is what `is_same_eight` gave
-module _ (p : ℕ → ℕ → Bool) (a b : List ℕ) (i : ℕ) (inv : agree p a b ≡ agree p (drop i a) (drop i b)) where
-  pub eight-next : agree p (eightAt a i) (eightAt b i) ≡ true → agree p a b ≡ agree p (drop (i + 8) a) (drop (i + 8) b)
-  eight-next h = inv ∙ (agree-cut p 8 (drop i a) (drop i b) ∙ rw (h, drop-drop 8 i a, drop-drop 8 i b) refl)
-
-  pub eight-differ : agree p (eightAt a i) (eightAt b i) ≡ false → false ≡ agree p a b
-  eight-differ h = sym (inv ∙ (agree-cut p 8 (drop i a) (drop i b) ∙ rw h refl))
-
 -- what is the same byte by byte is the same letter by letter
 agree-more : (x y : List ℕ) → agree sameByte x y ≡ true → agree sameLetter x y ≡ true
 unfolding agree sameByte
@@ -108,18 +101,71 @@ agree-more (b ∷ x) (d ∷ y) h =
     let k : agree sameLetter x y ≡ true = agree-more x y (and-right (eqb b d) (agree sameByte x y) h) in
     rw (sym (letter-same b d e), k) refl
 
-module _ (a b : List ℕ) (i : ℕ) (r : Bool) (gave : r ≡ agree sameByte (eightAt a i) (eightAt b i)) where
-  pub same-next : agree sameByte a b ≡ agree sameByte (drop i a) (drop i b) → r ≡ true → agree sameByte a b ≡ agree sameByte (drop (i + 8) a) (drop (i + 8) b)
-  same-next inv t = eight-next sameByte a b i inv (sym gave ∙ t)
+-- a turn of a loop that compares n bytes at once, and its ends
+module _ (n : ℕ) (p : ℕ → ℕ → Bool) (a b : List ℕ) (i : ℕ) (inv : agree p a b ≡ agree p (drop i a) (drop i b)) where
+  part-next : agree p (take n (drop i a)) (take n (drop i b)) ≡ true → agree p a b ≡ agree p (drop (i + n) a) (drop (i + n) b)
+  part-next h = inv ∙ (agree-cut p n (drop i a) (drop i b) ∙ rw (h, drop-drop n i a, drop-drop n i b) refl)
+
+  part-differ : agree p (take n (drop i a)) (take n (drop i b)) ≡ false → false ≡ agree p a b
+  part-differ h = sym (inv ∙ (agree-cut p n (drop i a) (drop i b) ∙ rw h refl))
+
+-- r is what the comparison of the n bytes gave
+module _ (n : ℕ) (a b : List ℕ) (i : ℕ) (r : Bool) (gave : r ≡ agree sameByte (take n (drop i a)) (take n (drop i b))) where
+  pub same-next : agree sameByte a b ≡ agree sameByte (drop i a) (drop i b) → r ≡ true → agree sameByte a b ≡ agree sameByte (drop (i + n) a) (drop (i + n) b)
+  same-next inv t = part-next n sameByte a b i inv (sym gave ∙ t)
 
   pub same-differ : agree sameByte a b ≡ agree sameByte (drop i a) (drop i b) → r ≡ false → false ≡ agree sameByte a b
-  same-differ inv t = eight-differ sameByte a b i inv (sym gave ∙ t)
+  same-differ inv t = part-differ n sameByte a b i inv (sym gave ∙ t)
 
-  pub letters-next : agree sameLetter a b ≡ agree sameLetter (drop i a) (drop i b) → r ≡ true → agree sameLetter a b ≡ agree sameLetter (drop (i + 8) a) (drop (i + 8) b)
-  letters-next inv t = eight-next sameLetter a b i inv (agree-more (eightAt a i) (eightAt b i) (sym gave ∙ t))
+  pub letters-next : agree sameLetter a b ≡ agree sameLetter (drop i a) (drop i b) → r ≡ true → agree sameLetter a b ≡ agree sameLetter (drop (i + n) a) (drop (i + n) b)
+  letters-next inv t = part-next n sameLetter a b i inv (agree-more (take n (drop i a)) (take n (drop i b)) (sym gave ∙ t))
 
--- the rest, by what the loop over single bytes gave
+  -- twice as many bytes, by their two halves: t is what the comparison of the second gave
+  twice : agree sameByte (take (n + n) (drop i a)) (take (n + n) (drop i b)) ≡ (r && agree sameByte (take n (drop (i + n) a)) (take n (drop (i + n) b)))
+  twice =
+      let k : n + n - n ≡ n = omega arith in
+      agree-cut sameByte n (take (n + n) (drop i a)) (take (n + n) (drop i b))
+      ∙ rw (take-take n (n + n) (drop i a) (omega arith), take-take n (n + n) (drop i b) (omega arith), drop-take n (n + n) (drop i a), drop-take n (n + n) (drop i b), k, drop-drop n i a, drop-drop n i b, sym gave) refl
+
+  pub twice-differ : r ≡ false → false ≡ agree sameByte (take (n + n) (drop i a)) (take (n + n) (drop i b))
+  twice-differ f = sym (twice ∙ rw f refl)
+
+  pub twice-same : r ≡ true → (t : Bool) → t ≡ agree sameByte (take n (drop (i + n) a)) (take n (drop (i + n) b)) → t ≡ agree sameByte (take (n + n) (drop i a)) (take (n + n) (drop i b))
+  twice-same h t second = second ∙ sym (twice ∙ rw h refl)
+
+-- the rest, by what the comparison of what is left gave
 pub agree-rest : (p : ℕ → ℕ → Bool) (a b : List ℕ) (i : ℕ) (r : Bool) → agree p a b ≡ agree p (drop i a) (drop i b) → r ≡ agree p (drop i a) (drop i b) → r ≡ agree p a b
 agree-rest p a b i r inv gave = gave ∙ sym inv
 
-pub ruleset eight-laws = (agree-length, eight-number, eight-bytes, eight-same, same-next, same-differ, letters-next, agree-rest, not-true, not-false, needs)
+pub same-rest : (a b : List ℕ) (i : ℕ) (r : Bool) → agree sameByte a b ≡ agree sameByte (drop i a) (drop i b) → r ≡ agree sameByte (take (length a - i) (drop i a)) (take (length b - i) (drop i b)) → r ≡ agree sameByte a b
+same-rest a b i r inv gave = agree-rest sameByte a b i r inv (gave ∙ rw (take-rest a i, take-rest b i) refl)
+
+-- `first_eight`: of fewer than eight bytes, and r is what `eight_at` gave at the front
+module _ (s : List ℕ) where
+  pub first-few : length s < 8 → 0 ≡ numberOf (firstEight s)
+  unfolding firstEight numberOf
+  first-few h = rw (lt-leb 8 (length s) h) refl
+
+  pub few-bytes : length s < 8 → isBytes (firstEight s) ≡ true
+  unfolding firstEight all
+  few-bytes h = rw (lt-leb 8 (length s) h) refl
+
+  pub first-number : 8 ≤ length s → (r : ℕ) → r ≡ numberOf (eightAt s 0) → r ≡ numberOf (firstEight s)
+  unfolding firstEight
+  first-number h r e = rw (le-leb 8 (length s) h) e
+
+  pub first-bytes : 8 ≤ length s → isBytes (eightAt s 0) ≡ true → isBytes (firstEight s) ≡ true
+  unfolding firstEight
+  first-bytes h e = rw (le-leb 8 (length s) h) e
+
+-- of the part of s that has the eight bytes from i on
+pub eight-part : (s : List ℕ) (i : ℕ) → i + 8 ≤ length s → firstEight (take (i + 8 - i) (drop i s)) ≡ eightAt s i
+unfolding firstEight
+eight-part s i h =
+    let n : i + 8 - i ≡ 8 = omega arith in
+    let w : length (take 8 (drop i s)) ≡ 8 = part-length s i 8 h in
+    rw (n, le-leb 8 (length (take 8 (drop i s))) (omega arith)) (take-take 8 8 (drop i s) (omega arith))
+
+pub ruleset first-laws = (first-few, few-bytes, first-number, first-bytes, needs)
+
+pub ruleset eight-laws = (agree-length, eight-number, eight-bytes, eight-same, same-next, same-differ, letters-next, agree-rest, same-rest, not-true, not-false, needs)

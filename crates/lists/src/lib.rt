@@ -1,13 +1,14 @@
 // Bytes and lists of bytes, as the crates above share them.
 ghost use mathlib.Core.Path.{_≡_};
 ghost use mathlib.Core.Bool.{cond, true};
-ghost use Prim.Native.Nat.{_+_, _<_, _≤_};
+ghost use Prim.Native.Nat.{_+_, _/_, _<_, _≤_};
+ghost use lib.Count.{trailingZeros};
 ghost use lib.Dec.{leb};
-ghost use lib.ListN.{length, drop};
+ghost use lib.ListN.{length, take, drop};
 ghost use Rattle.lists.specs.Bytes.{within, isBytes};
 ghost use Rattle.lists.specs.Equal.{sameByte, sameLetter, sameBytes, sameText};
 ghost use Rattle.lists.specs.Split.{indexOf};
-ghost use Rattle.lists.specs.Words.{numberOf, eightAt};
+ghost use Rattle.lists.specs.Words.{numberOf, eightAt, firstEight};
 ghost use Rattle.lists.specs.Write.{wroteFront};
 
 // Whether b stands between lo and hi, both included.
@@ -77,6 +78,24 @@ fn eight_at(s: &[u8], i: usize) -> u64
     a + 256 * (b + 256 * (c + 256 * (d + 256 * (e + 256 * (f + 256 * (g + 256 * h))))))
 }
 
+// The first eight bytes of s as one number, the lowest first; zero where s has fewer.
+pub fn first_eight(s: &[u8]) -> u64
+    ensures { λ r. ⌜ (r ≡ numberOf (firstEight (now (s .entry)))) × (isBytes (firstEight (now (s .entry))) ≡ true) ⌝ }
+{
+    if s.len() < 8 {
+        return 0;
+    }
+    eight_at(s, 0)
+}
+
+// How many of the eight bytes of m, the lowest first, stand below the one with its lowest set bit; eight where m is zero.
+pub fn bytes_below(m: u64) -> usize
+    ensures { λ r. ⌜ (r ≡ trailingZeros 64 m / 8) × (r ≤ 8) ⌝ }
+{
+    let bits = u64::trailing_zeros(m);
+    (bits / 8) as usize
+}
+
 // Whether the eight bytes of a and of b from i on are the same.
 fn is_same_eight(a: &[u8], b: &[u8], i: usize) -> bool
     requires { ⌜ (i + 8 ≤ length (now a)) × (i + 8 ≤ length (now b)) ⌝ }
@@ -119,6 +138,49 @@ pub fn equal(a: &[u8], b: &[u8]) -> bool
         i += 8;
     }
     equal_from(a, b, i)
+}
+
+// Whether the sixteen bytes of a and of b from i on are the same.
+fn is_same_sixteen(a: &[u8], b: &[u8], i: usize) -> bool
+    requires { ⌜ (i + 16 ≤ length (now a)) × (i + 16 ≤ length (now b)) ⌝ }
+    ensures { λ r. ⌜ r ≡ sameBytes (take 16 (drop i (now (a .entry)))) (take 16 (drop i (now (b .entry)))) ⌝ }
+{
+    let same = is_same_eight(a, b, i);
+    if !same {
+        return false;
+    }
+    is_same_eight(a, b, i + 8)
+}
+
+// Whether the thirty-two bytes of a and of b from i on are the same.
+fn is_same_thirty_two(a: &[u8], b: &[u8], i: usize) -> bool
+    requires { ⌜ (i + 32 ≤ length (now a)) × (i + 32 ≤ length (now b)) ⌝ }
+    ensures { λ r. ⌜ r ≡ sameBytes (take 32 (drop i (now (a .entry)))) (take 32 (drop i (now (b .entry)))) ⌝ }
+{
+    let same = is_same_sixteen(a, b, i);
+    if !same {
+        return false;
+    }
+    is_same_sixteen(a, b, i + 16)
+}
+
+// The same as `equal`, for bytes that may be many: thirty-two are compared a turn, and then what is left. `equal` stays small, so that the compiler
+// puts its code where it is called.
+pub fn equal_long(a: &[u8], b: &[u8]) -> bool
+    ensures { λ r. ⌜ r ≡ sameBytes (now (a .entry)) (now (b .entry)) ⌝ }
+{
+    if a.len() != b.len() {
+        return false;
+    }
+    let mut i = 0;
+    while 32 <= a.len() - i {
+        let same = is_same_thirty_two(a, b, i);
+        if !same {
+            return false;
+        }
+        i += 32;
+    }
+    equal(&a[i..], &b[i..])
 }
 
 // Whether a and b are the same text from i on, ignoring ASCII case.

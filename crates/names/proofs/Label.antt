@@ -1,7 +1,7 @@
--- The ways out of `is_label_byte`: small letters first. Assumes nothing.
+-- The ways out of `is_label_byte`: small letters first, then the dot. Assumes nothing.
 use Prim.Native.Nat.{ℕ, _<_, _≤_}
-use mathlib.Core.Path.{_≡_}
-use mathlib.Core.Bool.{and-false, or-false}
+use mathlib.Core.Path.{_≡_, refl}
+use mathlib.Core.Bool.{false, and-false, or-false}
 use native.Mathlib.Omega.{arith}
 use lib.Dec.{eqb, leb}
 use borrow.Author.Needs.{needs}
@@ -27,4 +27,8 @@ module _ (b : ℕ) where
       unfolding labelByte
       byte-hyphen h = simp (lt-leb 97 b s, lt-leb 65 b c, lt-leb 48 b h)
 
-pub ruleset byte-laws = (byte-small, byte-capital, byte-digit, byte-hyphen, needs)
+pub byte-dot : (b : ℕ) → b ≡ 46 → false ≡ labelByte b
+unfolding labelByte
+byte-dot b e = rw e refl
+
+pub ruleset byte-laws = (byte-small, byte-dot, byte-capital, byte-digit, byte-hyphen, needs)

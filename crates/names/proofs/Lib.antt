@@ -1,5 +1,6 @@
 pub mod Label
 pub mod Name
+pub mod Start
 pub mod Cover
 pub mod Match
 pub mod Exactly

@@ -1,4 +1,4 @@
--- How the code tests and compares in one pass: not the paper's words, but the same answers (proofs/Name.antt and proofs/Cover.antt join them).
+-- How the code tests and compares in one pass: not the paper's words, but the same answers (proofs/Start.antt, proofs/Name.antt and proofs/Cover.antt join them).
 use Prim.Native.Char.{code}
 use Prim.Native.Nat.{ℕ, _-_}
 use mathlib.Core.Bool.{Bool, not, _&&_, _||_}
@@ -8,7 +8,12 @@ use lib.ListN.{length, getD, drop}
 use Rattle.lists.specs.Bytes.{within}
 use Rattle.lists.specs.Equal.{sameText}
 use Rattle.lists.specs.Split.{indexOf}
+use Rattle.fields.specs.Name.{letterOrDigit}
 use Rattle.names.specs.Name.{isStarred, afterFirst}
+
+-- a letter or a digit stands at the place, with which a label starts
+unfoldable pub startsLabel : List ℕ → ℕ → Bool
+startsLabel s at = ltb at (length s) && letterOrDigit (getD s at 0)
 
 -- what a label asks besides its bytes: 1 to 63 of them, no hyphen at either end
 unfoldable pub labelEnds : List ℕ → Bool

@@ -1,17 +1,22 @@
 // Names, and the patterns that match them.
+ghost use mathlib.Core.Bool.{true, false};
 ghost use mathlib.Core.Path.{_≡_};
-ghost use Prim.Native.Nat.{_+_};
-ghost use lib.ListN.{drop};
+ghost use Prim.Native.Nat.{_+_, _<_, _≤_};
+ghost use lib.Dec.{eqb};
+ghost use lib.ListN.{length, getD, drop};
 ghost use Rattle.lists.specs.Span.{spanOf};
 ghost use Rattle.names.specs.Name.{labelByte, isName, isStarred, isPattern, matchesName};
-ghost use Rattle.names.specs.Scan.{labelEnds, coversName};
+ghost use Rattle.names.specs.Scan.{startsLabel, labelEnds, coversName};
 
-// Whether b is a letter, a digit or a hyphen.
+// Whether b is a letter, a digit or a hyphen. A dot, which ends most labels, is told before capitals and digits.
 fn is_label_byte(b: u8) -> bool
     ensures { λ r. ⌜ r ≡ labelByte b ⌝ }
 {
     if b'a' <= b {
         return b <= b'z';
+    }
+    if b == b'.' {
+        return false;
     }
     if b'A' <= b {
         return b <= b'Z';
@@ -22,8 +27,18 @@ fn is_label_byte(b: u8) -> bool
     b == b'-'
 }
 
+// Whether a letter or a digit stands at `at`: a label starts with nothing else.
+fn starts_label(s: &[u8], at: usize) -> bool
+    ensures { λ r. ⌜ r ≡ startsLabel (now (s .entry)) at ⌝ }
+{
+    if s.len() <= at {
+        return false;
+    }
+    fields::is_letter_or_digit(s[at])
+}
+
 // The first place of s at or after `from` where no byte of a label stands; `from` where it is past the end.
-fn label_end(s: &[u8], from: usize) -> usize
+fn label_from(s: &[u8], from: usize) -> usize
     ensures { λ r. ⌜ r ≡ from + spanOf labelByte (drop from (now (s .entry))) ⌝ }
 {
     let mut i = from;
@@ -37,17 +52,20 @@ fn label_end(s: &[u8], from: usize) -> usize
     i
 }
 
-// Whether l has 1 to 63 bytes and no hyphen at either end.
+// The same from the start of a label on, whose first byte was looked at.
+fn label_end(s: &[u8], start: usize) -> usize
+    requires { ⌜ (start < length (now s)) × (labelByte (getD (now s) start 0) ≡ true) ⌝ }
+    ensures { λ r. ⌜ r ≡ start + spanOf labelByte (drop start (now (s .entry))) ⌝ }
+{
+    label_from(s, start + 1)
+}
+
+// Whether l, which starts with no hyphen, has at most 63 bytes and no hyphen at its end.
 fn has_label_ends(l: &[u8]) -> bool
+    requires { ⌜ (1 ≤ length (now l)) × (eqb (getD (now l) 0 0) 45 ≡ false) ⌝ }
     ensures { λ r. ⌜ r ≡ labelEnds (now (l .entry)) ⌝ }
 {
-    if l.len() < 1 {
-        return false;
-    }
     if 63 < l.len() {
-        return false;
-    }
-    if l[0] == b'-' {
         return false;
     }
     if l[l.len() - 1] == b'-' {
@@ -68,6 +86,10 @@ pub fn is_name(s: &[u8]) -> bool
     }
     let mut start = 0;
     loop {
+        let started = starts_label(s, start);
+        if !started {
+            return false;
+        }
         let end = label_end(s, start);
         let good = has_label_ends(&s[start..end]);
         if !good {

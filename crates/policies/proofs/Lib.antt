@@ -1,4 +1,5 @@
 pub mod Texts
+pub mod Printed
 pub mod Values
 pub mod Takes
 pub mod Body

@@ -4,7 +4,9 @@ ghost use mathlib.Core.Bool.{true, _||_};
 ghost use Prim.Native.Nat.{_+_, _<_, _≤_};
 ghost use lib.ListN.{length, drop};
 ghost use Rattle.lists.specs.Bytes.{all};
+ghost use Rattle.lists.specs.Span.{spanOf};
 ghost use Rattle.lists.specs.Split.{indexOf};
+ghost use Rattle.lists.specs.Words.{eightAt, marks};
 ghost use Rattle.fields.specs.declared.Field.{Field};
 ghost use Rattle.fields.specs.Name.{hasName, fieldAt};
 ghost use Rattle.policies.specs.Texts.{printable, isText};
@@ -369,12 +371,58 @@ fn line_end(s: &[u8], from: usize) -> usize
     lists::find(s, b'\n', from)
 }
 
+// The first place of s at or after `from` where no space and no byte 21 to 7E stands, byte by byte; `from` where it is past the end.
+fn printable_from(s: &[u8], from: usize) -> usize
+    ensures { λ r. ⌜ r ≡ from + spanOf printable (drop from (now (s .entry))) ⌝ }
+{
+    let mut i = from;
+    while i < s.len() {
+        let plain = utf8::is_printable(s[i]);
+        if !plain {
+            return i;
+        }
+        i += 1;
+    }
+    i
+}
+
+// Of the eight bytes of s from i on, the high bit of each that is no space and no byte 21 to 7E. What is done to the word is done to each of its bytes: without its
+// high bit a byte is such a one where the first sum passes 127, as it does from 20 on, and the second does not, as it does from 7F on.
+fn unprintable_at(s: &[u8], i: usize) -> u64
+    requires { ⌜ i + 8 ≤ length (now s) ⌝ }
+    ensures { λ r. ⌜ r ≡ marks printable (eightAt (now (s .entry)) i) ⌝ }
+{
+    let x = lists::first_eight(&s[i..i + 8]);
+    let low = x & 0x7f7f7f7f7f7f7f7f;
+    let from_space = low + 0x6060606060606060;
+    let past_tilde = low + 0x0101010101010101;
+    let others = (from_space ^ past_tilde) ^ 0x8080808080808080;
+    (x | others) & 0x8080808080808080
+}
+
+// The same as `printable_from`, eight bytes a turn, and then what is left.
+fn printable_end(s: &[u8], from: usize) -> usize
+    requires { ⌜ from ≤ length (now s) ⌝ }
+    ensures { λ r. ⌜ r ≡ from + spanOf printable (drop from (now (s .entry))) ⌝ }
+{
+    let mut i = from;
+    while 8 <= s.len() - i {
+        let m = unprintable_at(s, i);
+        if m != 0 {
+            let before = lists::bytes_below(m);
+            return i + before;
+        }
+        i += 8;
+    }
+    printable_from(s, i)
+}
+
 // What the line does that begins at `at` and whose name ends at `colon`. Its other bytes are read once where they are printable.
 fn take_named(seen: Seen, s: &[u8], at: usize, colon: usize, host: &[u8], listed: bool) -> Turn
     requires { ⌜ (Field.Named colon ≡ fieldAt 58 (now s) at) × (at ≤ colon) × (colon < length (now s)) × (length (now s) ≤ 65536) ⌝ }
     ensures { λ r. ⌜ r ≡ turnAt (now (host .entry)) listed seen (now (s .entry)) at ⌝ }
 {
-    let printable = utf8::printable_end(s, colon + 1);
+    let printable = printable_end(s, colon + 1);
     let end = line_end(s, printable);
     let text = text_end(s, at, end);
     let step = take_value(

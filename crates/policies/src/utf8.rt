@@ -2,7 +2,6 @@
 ghost use mathlib.Core.Path.{_≡_};
 ghost use Prim.Native.Nat.{_+_, _≤_};
 ghost use lib.ListN.{length, getD, drop};
-ghost use Rattle.lists.specs.Span.{spanOf};
 ghost use Rattle.policies.specs.Texts.{utf8Tail, utf8Two, utf8Three, utf8Four, printable, isText};
 ghost use Rattle.policies.specs.Reader.{sizeOf, sizeAt};
 
@@ -14,7 +13,7 @@ fn is_tail(b: u8) -> bool
 }
 
 // Whether b is a space or a byte 21 to 7E.
-fn is_printable(b: u8) -> bool
+pub fn is_printable(b: u8) -> bool
     ensures { λ r. ⌜ r ≡ printable b ⌝ }
 {
     lists::is_within(0x20, 0x7e, b)
@@ -135,19 +134,4 @@ pub fn is_text(v: &[u8]) -> bool
         }
     }
     true
-}
-
-// The first place of s at or after `from` where no space and no byte 21 to 7E stands; `from` where it is past the end.
-pub fn printable_end(s: &[u8], from: usize) -> usize
-    ensures { λ r. ⌜ r ≡ from + spanOf printable (drop from (now (s .entry))) ⌝ }
-{
-    let mut i = from;
-    while i < s.len() {
-        let plain = is_printable(s[i]);
-        if !plain {
-            return i;
-        }
-        i += 1;
-    }
-    i
 }

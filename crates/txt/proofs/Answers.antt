@@ -16,7 +16,7 @@ use Rattle.lists.specs.Span.{spanOf, begins}
 use Rattle.lists.specs.Text.{text}
 use Rattle.lists.proofs.Laws.{tests}
 use Rattle.lists.proofs.All.{all-next, all-fail, all-end}
-use Rattle.lists.proofs.Span.{span-all, span-short}
+use Rattle.lists.proofs.Span.{span-reaches}
 use Rattle.fields.specs.Name.{letterOrDigit}
 use Rattle.txt.specs.declared.TxtAnswer.{TxtAnswer}
 use Rattle.txt.specs.declared.Step.{Step}
@@ -72,8 +72,8 @@ module _ (t : List ℕ) (at : ℕ) (r : Step) (is : StepIs t at r) where
   unfolding StepIs
   fields-broken q = subst (λ (x : Step). StepIs t at x) q is
 
-  module _ (a e w v : ℕ) (q : r ≡ Step.Field a e w v) where
-    facts : FieldIs t at a e w v
+  module _ (a e v : ℕ) (q : r ≡ Step.Field a e v) where
+    facts : FieldIs t at a e v
     unfolding StepIs
     facts = subst (λ (x : Step). StepIs t at x) q is
 
@@ -83,14 +83,8 @@ module _ (t : List ℕ) (at : ℕ) (r : Step) (is : StepIs t at r) where
     pub field-equals : e ≤ length t
     field-equals = omega (arith, facts .valued, facts .inside)
 
-    pub field-letters : w ≡ e + 1 + spanOf letterOrDigit (drop (e + 1) t)
-    field-letters = facts .letters
-
     pub field-value : e + 1 < v
     field-value = facts .valued
-
-    pub field-upto : w ≤ v
-    field-upto = facts .upto
 
     pub field-inside : v ≤ length t
     field-inside = facts .inside
@@ -108,8 +102,8 @@ module _ (t : List ℕ) (at : ℕ) (r : Step) (is : StepIs t at r) where
     unfolding hasForm
     form-broken q = cc (fields-broken q)
 
-    pub form-next : (a e w v : ℕ) → r ≡ Step.Field a e w v → hasForm (fieldsOf (drop from t)) ≡ hasForm (fieldsOf (drop v t))
-    form-next a e w v q = cc (facts a e w v q .fields, form-more (drop a t) (fieldsOf (drop v t)))
+    pub form-next : (a e v : ℕ) → r ≡ Step.Field a e v → hasForm (fieldsOf (drop from t)) ≡ hasForm (fieldsOf (drop v t))
+    form-next a e v q = cc (facts a e v q .fields, form-more (drop a t) (fieldsOf (drop v t)))
 
   -- `grade`
   module _ (inv : idField t ≡ idAmong (fieldsOf (drop at t))) where
@@ -121,22 +115,22 @@ module _ (t : List ℕ) (at : ℕ) (r : Step) (is : StepIs t at r) where
     unfolding graded idAmong
     grade-broken q x e = let i : idField t ≡ none = inv ∙ ap idAmong (fields-broken q) in e ∙ rw i
 
-    module _ (a e w v : ℕ) (q : r ≡ Step.Field a e w v) (named : Bool) (gave : named ≡ sameBytes (take (e - a) (drop a t)) (text "id")) where
+    module _ (a e v : ℕ) (q : r ≡ Step.Field a e v) (named : Bool) (gave : named ≡ sameBytes (take (e - a) (drop a t)) (text "id")) where
       name-gave : named ≡ sameBytes (nameOf (drop a t)) (text "id")
-      name-gave = gave ∙ ap (λ (n : List ℕ). sameBytes n (text "id")) (sym (facts a e w v q .name))
+      name-gave = gave ∙ ap (λ (n : List ℕ). sameBytes n (text "id")) (sym (facts a e v q .name))
 
       pub grade-next : named ≡ false → idField t ≡ idAmong (fieldsOf (drop v t))
-      grade-next f = inv ∙ (ap idAmong (facts a e w v q .fields) ∙ among-other (drop a t) (fieldsOf (drop v t)) (sym name-gave ∙ f))
+      grade-next f = inv ∙ (ap idAmong (facts a e v q .fields) ∙ among-other (drop a t) (fieldsOf (drop v t)) (sym name-gave ∙ f))
 
       pub grade-id : named ≡ true → (x : TxtAnswer) → x ≡ idAnswer t (e + 1) v → x ≡ graded t (idField t)
       unfolding idAnswer
       grade-id y x z =
-          let i : v ≤ length t = facts a e w v q .inside in
-          let k : e + 1 < v = facts a e w v q .valued in
-          let s : length t - length (afterName (drop a t)) ≡ e + 1 = rw (facts a e w v q .rest, length-drop (e + 1) t) (omega arith) in
-          let l : length (valueOf (drop a t)) ≡ v - (e + 1) = rw (facts a e w v q .value) (length-take-le (v - (e + 1)) (drop (e + 1) t) (omega (arith, length-drop (e + 1) t))) in
-          let f : idField t ≡ cond (isId (valueOf (drop a t)) && hasForm (fieldsOf (drop v t))) (some (drop a t)) none = inv ∙ (ap idAmong (facts a e w v q .fields) ∙ among-id (drop a t) (fieldsOf (drop v t)) (sym name-gave ∙ y)) in
-          z ∙ sym (ap (graded t) f ∙ (graded-cond t (drop a t) (isId (valueOf (drop a t)) && hasForm (fieldsOf (drop v t))) ∙ rw (s, l, facts a e w v q .value)))
+          let i : v ≤ length t = facts a e v q .inside in
+          let k : e + 1 < v = facts a e v q .valued in
+          let s : length t - length (afterName (drop a t)) ≡ e + 1 = rw (facts a e v q .rest, length-drop (e + 1) t) (omega arith) in
+          let l : length (valueOf (drop a t)) ≡ v - (e + 1) = rw (facts a e v q .value) (length-take-le (v - (e + 1)) (drop (e + 1) t) (omega (arith, length-drop (e + 1) t))) in
+          let f : idField t ≡ cond (isId (valueOf (drop a t)) && hasForm (fieldsOf (drop v t))) (some (drop a t)) none = inv ∙ (ap idAmong (facts a e v q .fields) ∙ among-id (drop a t) (fieldsOf (drop v t)) (sym name-gave ∙ y)) in
+          z ∙ sym (ap (graded t) f ∙ (graded-cond t (drop a t) (isId (valueOf (drop a t)) && hasForm (fieldsOf (drop v t))) ∙ rw (s, l, facts a e v q .value)))
 
 pub grade-start : (t : List ℕ) → begins version t ≡ true → idField t ≡ idAmong (fieldsOf (drop 7 t))
 unfolding idField
@@ -144,14 +138,17 @@ grade-start t b = rw b
 
 pub ruleset form-laws = (form-end, form-broken, form-next, field-less, needs)
 
--- `with_id`
-module _ (t : List ℕ) (e w v : ℕ) (letters : w ≡ e + 1 + spanOf letterOrDigit (drop (e + 1) t)) (valued : e + 1 < v) (upto : w ≤ v) (inside : v ≤ length t) where
+-- `with_id`: w is where `letters_end` found the end of the letters and digits
+module _ (t : List ℕ) (e w v : ℕ) (letters : w ≡ e + 1 + spanOf letterOrDigit (drop (e + 1) t)) (valued : e + 1 < v) (inside : v ≤ length t) where
   id-length : length (take (v - (e + 1)) (drop (e + 1) t)) ≡ v - (e + 1)
   id-length = length-take-le (v - (e + 1)) (drop (e + 1) t) (omega (arith, length-drop (e + 1) t))
 
+  id-letters : all letterOrDigit (take (v - (e + 1)) (drop (e + 1) t)) ≡ leb (v - (e + 1)) (spanOf letterOrDigit (drop (e + 1) t))
+  id-letters = sym (span-reaches letterOrDigit (drop (e + 1) t) (v - (e + 1)) (omega (arith, length-drop (e + 1) t)))
+
   other-id : w < v → isId (take (v - (e + 1)) (drop (e + 1) t)) ≡ false
   unfolding isId
-  other-id h = rw (span-short letterOrDigit (drop (e + 1) t) (v - (e + 1)) (omega arith) (omega (arith, length-drop (e + 1) t))) (and-false (within 1 32 (length (take (v - (e + 1)) (drop (e + 1) t)))))
+  other-id h = rw (id-letters, lt-leb (v - (e + 1)) (spanOf letterOrDigit (drop (e + 1) t)) (omega arith)) (and-false (within 1 32 (length (take (v - (e + 1)) (drop (e + 1) t)))))
 
   long-id : 32 < v - (e + 1) → isId (take (v - (e + 1)) (drop (e + 1) t)) ≡ false
   unfolding isId
@@ -159,10 +156,7 @@ module _ (t : List ℕ) (e w v : ℕ) (letters : w ≡ e + 1 + spanOf letterOrDi
 
   good-id : v ≤ w → v - (e + 1) ≤ 32 → isId (take (v - (e + 1)) (drop (e + 1) t)) ≡ true
   unfolding isId
-  good-id h l =
-      let n : v - (e + 1) ≡ spanOf letterOrDigit (drop (e + 1) t) = omega arith in
-      let g : all letterOrDigit (take (v - (e + 1)) (drop (e + 1) t)) ≡ true = rw n (span-all letterOrDigit (drop (e + 1) t)) in
-      rw (id-length, le-leb 1 (v - (e + 1)) (omega arith), le-leb (v - (e + 1)) 32 l) g
+  good-id h l = rw (id-length, le-leb 1 (v - (e + 1)) (omega arith), le-leb (v - (e + 1)) 32 l) (id-letters ∙ le-leb (v - (e + 1)) (spanOf letterOrDigit (drop (e + 1) t)) (omega arith))
 
   not-id : isId (take (v - (e + 1)) (drop (e + 1) t)) ≡ false → (x : TxtAnswer) → x ≡ refusal 42 → x ≡ idAnswer t (e + 1) v
   unfolding idAnswer

@@ -13,7 +13,7 @@ use borrow.Author.Tests.{lt-ltb, le-ltb, le-leb, leb-true, eq-eqb, ne-eqb}
 use Rattle.lists.specs.Bytes.{within}
 use Rattle.lists.specs.Span.{spanOf, begins}
 use Rattle.lists.proofs.Bools.{and-left, and-right}
-use Rattle.lists.proofs.Laws.{drop-next}
+use Rattle.lists.proofs.Laws.{drop-next, take-rest}
 use Rattle.lists.proofs.Span.{span-le}
 use Rattle.fields.specs.declared.Field as F
 use Rattle.fields.specs.Blank.{blank, afterBlanks}
@@ -23,43 +23,6 @@ use Rattle.txt.specs.declared.Step.{Step}
 use Rattle.txt.specs.Paper.{valueByte}
 use Rattle.txt.specs.Grammar.{hasDelimiter, afterDelimiter, nameOf, afterName, valueOf, afterField, hasField, oneMore, fieldsIn, fieldsOf}
 use Rattle.txt.specs.Steps.{StepIs}
-
--- ---- a value: letters and digits, and what follows them
-
-in-value : (x : ℕ) → 33 ≤ x → x ≤ 126 → (x ≡ 61 → ⊥) → (x ≡ 59 → ⊥) → valueByte x ≡ true
-unfolding valueByte
-in-value x a b c d = rw (le-leb 33 x a, le-leb x 126 b, ne-eqb x 61 c, ne-eqb x 59 d)
-
-letter-value : (x : ℕ) → letterOrDigit x ≡ true → valueByte x ≡ true
-unfolding letterOrDigit
-letter-value x h = go (within 97 122 x) (within 65 90 x) refl refl h
-  where
-    go : (a b : Bool) → within 97 122 x ≡ a → within 65 90 x ≡ b → (a || b || within 48 57 x) ≡ true → valueByte x ≡ true
-    go true b e f h =
-        let l : 97 ≤ x = leb-true 97 x (and-left (leb 97 x) (leb x 122) e) in
-        let m : x ≤ 122 = leb-true x 122 (and-right (leb 97 x) (leb x 122) e) in
-        in-value x (omega arith) (omega arith) (λ q. omega arith) (λ q. omega arith)
-    go false true e f h =
-        let l : 65 ≤ x = leb-true 65 x (and-left (leb 65 x) (leb x 90) f) in
-        let m : x ≤ 90 = leb-true x 90 (and-right (leb 65 x) (leb x 90) f) in
-        in-value x (omega arith) (omega arith) (λ q. omega arith) (λ q. omega arith)
-    go false false e f h =
-        let l : 48 ≤ x = leb-true 48 x (and-left (leb 48 x) (leb x 57) h) in
-        let m : x ≤ 57 = leb-true x 57 (and-right (leb 48 x) (leb x 57) h) in
-        in-value x (omega arith) (omega arith) (λ q. omega arith) (λ q. omega arith)
-
--- where every byte that passes p passes q, a span of q goes on where that of p ends
-span-on : (p q : ℕ → Bool) → ((x : ℕ) → p x ≡ true → q x ≡ true) → (s : List ℕ) → spanOf q s ≡ spanOf p s + spanOf q (drop (spanOf p s) s)
-unfolding spanOf
-span-on p q f [] = refl
-span-on p q f (x ∷ s) = go (span-on p q f s) (p x) refl
-  where
-    go : spanOf q s ≡ spanOf p s + spanOf q (drop (spanOf p s) s) → (t : Bool) → p x ≡ t → spanOf q (x ∷ s) ≡ cond t (suc (spanOf p s)) 0 + spanOf q (drop (cond t (suc (spanOf p s)) 0) (x ∷ s))
-    go ih true e = rw (f x e) (omega arith)
-    go ih false e = omega arith
-
-pub value-on : (s : List ℕ) → spanOf valueByte s ≡ spanOf letterOrDigit s + spanOf valueByte (drop (spanOf letterOrDigit s) s)
-value-on s = span-on letterOrDigit valueByte letter-value s
 
 -- ---- the bound on how many fields are read is large enough
 
@@ -166,14 +129,8 @@ module _ (t : List ℕ) (at : ℕ) (w : at < length t) (p : ℕ) (blanks : p ≡
         unfolding StepIs
         step-nameless q = no-field (drop at t) left delimiter more (rw past-delimiter (nameless (malformed-has 61 t a f gave q)))
 
-        -- the name goes up to e, letters and digits from there to m, and the value up to v
-        module _ (e : ℕ) (q : f ≡ F.Field.Named e) (m : ℕ) (letters : m ≡ e + 1 + spanOf letterOrDigit (drop (e + 1) t)) (v : ℕ) (on : v ≡ m + spanOf valueByte (drop m t)) where
-          values : v ≡ e + 1 + spanOf valueByte (drop (e + 1) t)
-          values =
-              let d : drop (spanOf letterOrDigit (drop (e + 1) t)) (drop (e + 1) t) ≡ drop m t = drop-drop (spanOf letterOrDigit (drop (e + 1) t)) (e + 1) t ∙ ap (λ (n : ℕ). drop n t) (sym letters) in
-              let o : spanOf valueByte (drop (e + 1) t) ≡ spanOf letterOrDigit (drop (e + 1) t) + spanOf valueByte (drop m t) = value-on (drop (e + 1) t) ∙ rw d in
-              omega arith
-
+        -- the name goes up to e, and the value up to v
+        module _ (e : ℕ) (q : f ≡ F.Field.Named e) (v : ℕ) (values : v ≡ e + 1 + spanOf valueByte (drop (e + 1) t)) where
           past-name : afterName (drop a t) ≡ drop (e + 1) t
           unfolding afterName
           past-name = sym (named-rest 61 t a f gave e q)
@@ -201,11 +158,9 @@ module _ (t : List ℕ) (at : ℕ) (w : at < length t) (p : ℕ) (blanks : p ≡
           unfolding afterField
           past-field = rw past-name (cc (values, drop-drop (spanOf valueByte (drop (e + 1) t)) (e + 1) t))
 
-          pub step-field : 1 < v - e → StepIs t at (Step.Field a e m v)
+          pub step-field : 1 < v - e → StepIs t at (Step.Field a e v)
           unfolding StepIs
           step-field k = record {
-            letters = letters;
-            upto = omega arith;
             later = omega arith;
             named = omega (arith, named-place 61 t a f gave e q);
             valued = omega arith;

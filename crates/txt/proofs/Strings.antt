@@ -9,6 +9,7 @@ use lib.ListN.{length, getD, take, drop, length-append, length-drop, drop-of-len
 use lib.Seq.{drop-drop, drop-nil, take-nil, length-take-le}
 use borrow.Author.Needs.{needs}
 use borrow.Author.Tests.{lt-ltb, le-ltb, le-leb, lt-leb, eq-eqb, ne-eqb, eqb-true}
+use Rattle.lists.specs.Equal.{agree, sameByte}
 use Rattle.lists.specs.Span.{begins}
 use Rattle.lists.specs.Text.{text}
 use Rattle.lists.proofs.Bools.{and-left, and-right}
@@ -185,68 +186,28 @@ pub ruleset tag-laws = (tag-start, tag-end, tag-length, tag-differs, tag-next, t
 
 -- ---- `is_tagged`: the tag in one string
 
--- a list that begins with p has its bytes
-tag-byte : (p t : List ℕ) (k : ℕ) → begins p t ≡ true → k < length p → getD t k 0 ≡ getD p k 0
-unfolding begins
-tag-byte [] t k h l = absurd (omega arith)
-tag-byte (x ∷ p) [] k h l = never cc
-tag-byte (x ∷ p) (y ∷ t) zero h l = eqb-true y x (and-left (eqb y x) (begins p t) h)
-tag-byte (x ∷ p) (y ∷ t) (suc k) h l = tag-byte p t k (and-right (eqb y x) (begins p t) h) (omega arith)
-
 begins-short : (p t : List ℕ) → length t < length p → begins p t ≡ false
 unfolding begins
 begins-short [] t h = absurd (omega arith)
 begins-short (x ∷ p) [] h = refl
 begins-short (x ∷ p) (y ∷ t) h = rw (begins-short p t (omega arith)) (and-false (eqb y x))
 
-unlike : (t : List ℕ) (k : ℕ) → k < 8 → (getD t k 0 ≡ getD tag k 0 → ⊥) → false ≡ isCandidate t
+begins-same : (p t : List ℕ) → length p ≤ length t → agree sameByte (take (length p) t) p ≡ begins p t
+unfolding begins agree sameByte
+begins-same [] t h = refl
+begins-same (x ∷ p) [] h = absurd (omega arith)
+begins-same (x ∷ p) (y ∷ t) h = rw (begins-same p t (omega arith)) refl
+
+pub tagged-short : (t : List ℕ) → length t < 8 → false ≡ isCandidate t
 unfolding isCandidate
-unlike t k l d = go (begins tag t) refl
-  where
-    go : (b : Bool) → begins tag t ≡ b → false ≡ b
-    go true q = absurd (d (tag-byte tag t k q l))
-    go false q = refl
+tagged-short t h = sym (begins-short tag t h)
 
-module _ (t : List ℕ) where
-  pub tagged-short : length t < 8 → false ≡ isCandidate t
-  unfolding isCandidate
-  tagged-short h = sym (begins-short tag t h)
+-- r is what `equal` gave of the first eight bytes
+pub tagged-same : (t : List ℕ) → 8 ≤ length t → (r : Bool) → r ≡ agree sameByte (take 8 t) tag → r ≡ isCandidate t
+unfolding isCandidate
+tagged-same t h r gave = gave ∙ begins-same tag t h
 
-  pub tagged-0 : (getD t 0 0 ≡ 118 → ⊥) → false ≡ isCandidate t
-  tagged-0 d = unlike t 0 (omega arith) d
-
-  pub tagged-1 : (getD t 1 0 ≡ 61 → ⊥) → false ≡ isCandidate t
-  tagged-1 d = unlike t 1 (omega arith) d
-
-  pub tagged-2 : (getD t 2 0 ≡ 83 → ⊥) → false ≡ isCandidate t
-  tagged-2 d = unlike t 2 (omega arith) d
-
-  pub tagged-3 : (getD t 3 0 ≡ 84 → ⊥) → false ≡ isCandidate t
-  tagged-3 d = unlike t 3 (omega arith) d
-
-  pub tagged-4 : (getD t 4 0 ≡ 83 → ⊥) → false ≡ isCandidate t
-  tagged-4 d = unlike t 4 (omega arith) d
-
-  pub tagged-5 : (getD t 5 0 ≡ 118 → ⊥) → false ≡ isCandidate t
-  tagged-5 d = unlike t 5 (omega arith) d
-
-  pub tagged-6 : (getD t 6 0 ≡ 49 → ⊥) → false ≡ isCandidate t
-  tagged-6 d = unlike t 6 (omega arith) d
-
--- the first seven bytes are those of the tag
-pub tagged-last : (t : List ℕ) → 8 ≤ length t → getD t 0 0 ≡ 118 → getD t 1 0 ≡ 61 → getD t 2 0 ≡ 83 → getD t 3 0 ≡ 84 → getD t 4 0 ≡ 83 → getD t 5 0 ≡ 118 → getD t 6 0 ≡ 49 → eqb (getD t 7 0) 59 ≡ isCandidate t
-unfolding isCandidate begins
-tagged-last [] h ea eb ec ed ee ef eg = absurd (omega arith)
-tagged-last (a ∷ []) h ea eb ec ed ee ef eg = absurd (omega arith)
-tagged-last (a ∷ b ∷ []) h ea eb ec ed ee ef eg = absurd (omega arith)
-tagged-last (a ∷ b ∷ c ∷ []) h ea eb ec ed ee ef eg = absurd (omega arith)
-tagged-last (a ∷ b ∷ c ∷ d ∷ []) h ea eb ec ed ee ef eg = absurd (omega arith)
-tagged-last (a ∷ b ∷ c ∷ d ∷ e ∷ []) h ea eb ec ed ee ef eg = absurd (omega arith)
-tagged-last (a ∷ b ∷ c ∷ d ∷ e ∷ f ∷ []) h ea eb ec ed ee ef eg = absurd (omega arith)
-tagged-last (a ∷ b ∷ c ∷ d ∷ e ∷ f ∷ g ∷ []) h ea eb ec ed ee ef eg = absurd (omega arith)
-tagged-last (a ∷ b ∷ c ∷ d ∷ e ∷ f ∷ g ∷ x ∷ t) h ea eb ec ed ee ef eg = rw (ea, eb, ec, ed, ee, ef, eg) (sym (and-true (eqb x 59)))
-
-pub ruleset tagged-laws = (tagged-short, tagged-0, tagged-1, tagged-2, tagged-3, tagged-4, tagged-5, tagged-6, tagged-last, needs)
+pub ruleset tagged-laws = (tagged-short, tagged-same, needs)
 
 -- ---- `is_candidate`: where the first string has room for the tag, only that string counts
 

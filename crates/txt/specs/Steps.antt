@@ -10,7 +10,6 @@ use Rattle.lists.specs.Bytes.{all}
 use Rattle.lists.specs.Span.{spanOf}
 use Rattle.numbers.specs.Numbers.{numbers, sum}
 use Rattle.numbers.specs.Pieces.{cut}
-use Rattle.fields.specs.Name.{letterOrDigit}
 use Rattle.txt.specs.declared.TxtAnswer.{TxtAnswer}
 use Rattle.txt.specs.declared.Found.{Found}
 use Rattle.txt.specs.declared.Found.the-variants.{Nothing, One, Several}
@@ -66,10 +65,8 @@ FoundIs s l Nothing = (wireFrom s l 0 0 ≡ true) × (SeenIs s (candidatesFrom s
 FoundIs s l (One a e) = (wireFrom s l 0 0 ≡ true) × (SeenIs s (candidatesFrom s l 0 0) [] (One a e))
 FoundIs s l Several = (wireFrom s l 0 0 ≡ true) × (SeenIs s (candidatesFrom s l 0 0) [] Several)
 
--- at `at` stand a delimiter and a field: its name from a, `=` at e, its value up to v, of which all before w are letters and digits
-pub record FieldIs (t : List ℕ) (at a e w v : ℕ) : Type 0 where
-  pub letters : w ≡ e + 1 + spanOf letterOrDigit (drop (e + 1) t)
-  pub upto : w ≤ v
+-- at `at` stand a delimiter and a field: its name from a, `=` at e, its value up to v
+pub record FieldIs (t : List ℕ) (at a e v : ℕ) : Type 0 where
   pub later : at < a
   pub named : a ≤ e
   pub valued : e + 1 < v
@@ -82,7 +79,7 @@ pub record FieldIs (t : List ℕ) (at a e w v : ℕ) : Type 0 where
 -- what stands at `at`, after the version or a field
 unfoldable pub StepIs : List ℕ → ℕ → Step → Type 0
 StepIs t at End = fieldsOf (drop at t) ≡ some []
-StepIs t at (Field a e w v) = FieldIs t at a e w v
+StepIs t at (Field a e v) = FieldIs t at a e v
 StepIs t at Broken = fieldsOf (drop at t) ≡ none
 
 -- the form is right: there are fields, or none, but no fault

@@ -7,8 +7,8 @@ ghost use lib.ListN.{length, getD, drop};
 ghost use Rattle.lists.specs.Equal.{sameBytes};
 ghost use Rattle.lists.specs.Span.{spanOf, begins};
 ghost use Rattle.lists.specs.Text.{text};
+ghost use Rattle.lists.specs.Words.{eightAt, marks};
 ghost use Rattle.numbers.specs.Pieces.{endOf};
-ghost use Rattle.fields.specs.Name.{letterOrDigit};
 ghost use Rattle.txt.specs.Paper.{valueByte, isId};
 ghost use Rattle.txt.specs.Rdata.{isRdata, joined};
 ghost use Rattle.txt.specs.Grammar.{version, fieldsOf};
@@ -63,28 +63,7 @@ fn is_tagged(t: &[u8]) -> bool
     if t.len() < 8 {
         return false;
     }
-    if t[0] != b'v' {
-        return false;
-    }
-    if t[1] != b'=' {
-        return false;
-    }
-    if t[2] != b'S' {
-        return false;
-    }
-    if t[3] != b'T' {
-        return false;
-    }
-    if t[4] != b'S' {
-        return false;
-    }
-    if t[5] != b'v' {
-        return false;
-    }
-    if t[6] != b'1' {
-        return false;
-    }
-    t[7] == b';'
+    lists::equal(&t[0..8], &TAG)
 }
 
 // Whether the text of the RDATA s begins with the tag, which may go over several strings. They are not joined for it: the length bytes are skipped.
@@ -266,27 +245,11 @@ fn is_value_byte(b: u8) -> bool
     true
 }
 
-// Where the letters and digits end that follow the `=` at e.
-fn letters_end(t: &[u8], e: usize) -> usize
-    requires { ⌜ e < length (now t) ⌝ }
-    ensures { λ r. ⌜ (r ≡ e + 1 + spanOf letterOrDigit (drop (e + 1) (now (t .entry)))) × (e < r) ⌝ }
+// The first place of t at or after `from` where no byte of a value stands, byte by byte; `from` where it is past the end.
+fn value_from(t: &[u8], from: usize) -> usize
+    ensures { λ r. ⌜ r ≡ from + spanOf valueByte (drop from (now (t .entry))) ⌝ }
 {
-    let mut i = e + 1;
-    while i < t.len() {
-        let good = fields::is_letter_or_digit(t[i]);
-        if !good {
-            return i;
-        }
-        i += 1;
-    }
-    i
-}
-
-// Where the value ends, whose bytes before w were looked at.
-fn value_end(t: &[u8], w: usize) -> usize
-    ensures { λ r. ⌜ (r ≡ w + spanOf valueByte (drop w (now (t .entry)))) × (w ≤ r) ⌝ }
-{
-    let mut i = w;
+    let mut i = from;
     while i < t.len() {
         let good = is_value_byte(t[i]);
         if !good {
@@ -297,11 +260,44 @@ fn value_end(t: &[u8], w: usize) -> usize
     i
 }
 
-// What follows the version or a field: the end; a field from a place, with its `=` at a place, letters and digits from there to a place, and its value up to a place;
-// or neither.
+// Of the eight bytes of t from i on, the high bit of each that may not stand in a value. What is done to the word is done to each of its bytes: without its high bit a
+// byte may stand there where the first sum passes 127, as it does from 21 on, the second does not, as it does from 7F on, and it differs from `=` and from `;`.
+fn unvalued_at(t: &[u8], i: usize) -> u64
+    requires { ⌜ i + 8 ≤ length (now t) ⌝ }
+    ensures { λ r. ⌜ r ≡ marks valueByte (eightAt (now (t .entry)) i) ⌝ }
+{
+    let x = lists::first_eight(&t[i..i + 8]);
+    let low = x & 0x7f7f7f7f7f7f7f7f;
+    let from_21 = low + 0x5f5f5f5f5f5f5f5f;
+    let past_tilde = low + 0x0101010101010101;
+    let no_equals = (low ^ 0x3d3d3d3d3d3d3d3d) + 0x7f7f7f7f7f7f7f7f;
+    let no_semicolon = (low ^ 0x3b3b3b3b3b3b3b3b) + 0x7f7f7f7f7f7f7f7f;
+    let good = (from_21 ^ past_tilde) & no_equals & no_semicolon;
+    let others = good ^ 0x8080808080808080;
+    (x | others) & 0x8080808080808080
+}
+
+// Where the value ends that follows the `=` at e. Eight bytes are looked at a turn, and then what is left.
+fn value_end(t: &[u8], e: usize) -> usize
+    requires { ⌜ e < length (now t) ⌝ }
+    ensures { λ r. ⌜ r ≡ e + 1 + spanOf valueByte (drop (e + 1) (now (t .entry))) ⌝ }
+{
+    let mut i = e + 1;
+    while 8 <= t.len() - i {
+        let m = unvalued_at(t, i);
+        if m != 0 {
+            let before = lists::bytes_below(m);
+            return i + before;
+        }
+        i += 8;
+    }
+    value_from(t, i)
+}
+
+// What follows the version or a field: the end; a field from a place, with its `=` at a place and its value up to a place; or neither.
 enum Step {
     End,
-    Field(usize, usize, usize, usize),
+    Field(usize, usize, usize),
     Broken,
 }
 
@@ -327,12 +323,11 @@ fn step_at(t: &[u8], at: usize) -> Step
     let Field::Named(e) = name else {
         return Step::Broken;
     };
-    let w = letters_end(t, e);
-    let v = value_end(t, w);
+    let v = value_end(t, e);
     if v - e <= 1 {
         return Step::Broken;
     }
-    Step::Field(a, e, w, v)
+    Step::Field(a, e, v)
 }
 
 // Whether the field's name is `id`.
@@ -371,7 +366,7 @@ fn has_form(t: &[u8], from: usize) -> bool
     loop {
         let step = step_at(t, at);
         match step {
-            Step::Field(_, _, _, v) => {
+            Step::Field(_, _, v) => {
                 at = v;
             }
             Step::End => {
@@ -384,15 +379,16 @@ fn has_form(t: &[u8], from: usize) -> bool
     }
 }
 
-// The answer where the value of the first field named `id` follows the `=` at e and goes up to v, its letters and digits up to w.
-fn with_id(t: &[u8], e: usize, w: usize, v: usize) -> TxtAnswer
-    requires { ⌜ (w ≡ e + 1 + spanOf letterOrDigit (drop (e + 1) (now t))) × (e + 1 < v) × (w ≤ v) × (v ≤ length (now t)) ⌝ }
+// The answer where the value of the first field named `id` follows the `=` at e and goes up to v.
+fn with_id(t: &[u8], e: usize, v: usize) -> TxtAnswer
+    requires { ⌜ (e + 1 < v) × (v ≤ length (now t)) ⌝ }
     ensures { λ r. ⌜ r ≡ idAnswer (now (t .entry)) (e + 1) v ⌝ }
 {
+    let a = e + 1;
+    let w = fields::letters_end(t, a);
     if w < v {
         return refused(42);
     }
-    let a = e + 1;
     if 32 < v - a {
         return refused(42);
     }
@@ -416,10 +412,10 @@ fn grade(t: &[u8]) -> TxtAnswer
     loop {
         let step = step_at(t, at);
         match step {
-            Step::Field(a, e, w, v) => {
+            Step::Field(a, e, v) => {
                 let named = is_id_name(&t[a..e]);
                 if named {
-                    return with_id(t, e, w, v);
+                    return with_id(t, e, v);
                 }
                 at = v;
             }

@@ -15,5 +15,8 @@ returns-3 c = search byte-laws
 returns-4 : tie.Need-returns-4
 returns-4 c = search byte-laws
 
+returns-5 : tie.Need-returns-5
+returns-5 c = search byte-laws
+
 pub is-label-byte-spec : {M : Type 1} → statement M
-is-label-byte-spec = tie.close (tie.spec returns returns-2 returns-3 returns-4)
+is-label-byte-spec = tie.close (tie.spec returns returns-2 returns-3 returns-4 returns-5)

@@ -4,7 +4,7 @@ use mathlib.Core.Path.{_≡_}
 use lib.ListN.{length, drop}
 use Rattle.txt.specs.Grammar.{fieldsOf, idAmong, idField}
 use borrow.Author.Needs.{needs}
-use Rattle.txt.proofs.Answers.{grade-start, grade-end, grade-broken, grade-next, grade-id, field-order, field-equals, field-letters, field-value, field-upto, field-inside, field-less}
+use Rattle.txt.proofs.Answers.{grade-start, grade-end, grade-broken, grade-next, grade-id, field-order, field-equals, field-value, field-inside, field-less}
 use Rattle.txt.proofs.grade.Statement.{statement}
 use Rattle.txt.proofs.grade.Tie as tie
 
@@ -36,7 +36,7 @@ is-id-name-requires : tie.Need-is-id-name-requires Inv-loop μ-loop
 is-id-name-requires c κs = search needs
 
 with-id-requires : tie.Need-with-id-requires Inv-loop μ-loop
-with-id-requires c κs = (search field-letters, search field-value, search field-upto, search field-inside)
+with-id-requires c κs = (search field-value, search field-inside)
 
 returns : tie.Need-returns Inv-loop μ-loop
 returns c = search grade-id

@@ -39,9 +39,6 @@ enum-told c = search step-laws
 returns-5 : tie.Need-returns-5
 returns-5 c = search step-laws
 
-letters-end-requires : tie.Need-letters-end-requires
-letters-end-requires c κs = search step-laws
-
 value-end-requires : tie.Need-value-end-requires
 value-end-requires c κs = search step-laws
 
@@ -70,7 +67,6 @@ step-at-spec =
     enum-known-name
     enum-told
     returns-5
-    letters-end-requires
     value-end-requires
     sub-if5
     returns-6

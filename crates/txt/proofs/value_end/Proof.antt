@@ -1,42 +1,54 @@
 -- `txt::value_end` meets its contract. Assumes nothing.
-use Prim.Native.Nat.{_≤_, _+_, _-_}
+use Prim.Native.Nat.{_+_, _-_, _≤_}
 use mathlib.Core.Path.{_≡_}
 use lib.ListN.{length, drop}
 use Rattle.lists.specs.Span.{spanOf}
 use Rattle.txt.specs.Paper.{valueByte}
-use Rattle.lists.proofs.Span.{past-laws}
+use Rattle.lists.proofs.Marks.{marks-laws}
 use Rattle.txt.proofs.value_end.Statement.{statement}
 use Rattle.txt.proofs.value_end.Tie as tie
 
 abbrev Inv-loop : tie.InvT-loop
-Inv-loop t w i₀ i = (w ≤ i) × (w + spanOf valueByte (drop w t) ≡ i + spanOf valueByte (drop i t))
+Inv-loop t e i₀ i = (i ≤ length t) × (e + 1 + spanOf valueByte (drop (e + 1) t) ≡ i + spanOf valueByte (drop i t))
 
 abbrev μ-loop : tie.MeasureT-loop
-μ-loop t w i₀ i = length t - i
-
-loop-holds : tie.Need-loop-holds Inv-loop μ-loop
-loop-holds c = search past-laws
-
-shared-slice-read-is-value-byte : tie.Need-shared-slice-read-is-value-byte Inv-loop μ-loop
-shared-slice-read-is-value-byte c = search past-laws
-
-is-value-byte-requires : tie.Need-is-value-byte-requires Inv-loop μ-loop
-is-value-byte-requires c κs = search past-laws
-
-returns : tie.Need-returns Inv-loop μ-loop
-returns c = search past-laws
+μ-loop t e i₀ i = length t - i
 
 add-i : tie.Need-add-i Inv-loop μ-loop
-add-i c = search past-laws
+add-i c = search marks-laws
+
+loop-holds : tie.Need-loop-holds Inv-loop μ-loop
+loop-holds c = search marks-laws
+
+sub-loop : tie.Need-sub-loop Inv-loop μ-loop
+sub-loop c = search marks-laws
+
+unvalued-at-requires : tie.Need-unvalued-at-requires Inv-loop μ-loop
+unvalued-at-requires c κs = search marks-laws
+
+bytes-below-requires : tie.Need-bytes-below-requires Inv-loop μ-loop
+bytes-below-requires c κs = search marks-laws
+
+add-result : tie.Need-add-result Inv-loop μ-loop
+add-result c = search marks-laws
+
+returns : tie.Need-returns Inv-loop μ-loop
+returns c = search marks-laws
+
+add-i-2 : tie.Need-add-i-2 Inv-loop μ-loop
+add-i-2 c = search marks-laws
 
 loop-less : tie.Need-loop-less Inv-loop μ-loop
-loop-less c = search past-laws
+loop-less c = search marks-laws
 
 loop-again : tie.Need-loop-again Inv-loop μ-loop
-loop-again c = search past-laws
+loop-again c = search marks-laws
+
+value-from-requires : tie.Need-value-from-requires Inv-loop μ-loop
+value-from-requires c κs = search marks-laws
 
 returns-2 : tie.Need-returns-2 Inv-loop μ-loop
-returns-2 c = search past-laws
+returns-2 c = search marks-laws
 
 pub value-end-spec : {M : Type 1} → statement M
 value-end-spec =
@@ -44,11 +56,15 @@ value-end-spec =
     (tie.spec
     Inv-loop
     μ-loop
-    loop-holds
-    shared-slice-read-is-value-byte
-    is-value-byte-requires
-    returns
     add-i
+    loop-holds
+    sub-loop
+    unvalued-at-requires
+    bytes-below-requires
+    add-result
+    returns
+    add-i-2
     loop-less
     loop-again
+    value-from-requires
     returns-2)

@@ -3,14 +3,17 @@ use Rattle.txt.proofs.Answers.{with-laws}
 use Rattle.txt.proofs.with_id.Statement.{statement}
 use Rattle.txt.proofs.with_id.Tie as tie
 
+add-a : tie.Need-add-a
+add-a c = search with-laws
+
+letters-end-requires : tie.Need-letters-end-requires
+letters-end-requires c κs = search with-laws
+
 refused-requires : tie.Need-refused-requires
 refused-requires c κs = search with-laws
 
 returns : tie.Need-returns
 returns c = search with-laws
-
-add-a : tie.Need-add-a
-add-a c = search with-laws
 
 sub-if2 : tie.Need-sub-if2
 sub-if2 c = search with-laws
@@ -40,9 +43,10 @@ pub with-id-spec : {M : Type 1} → statement M
 with-id-spec =
     tie.close
     (tie.spec
+    add-a
+    letters-end-requires
     refused-requires
     returns
-    add-a
     sub-if2
     refused-requires-2
     returns-2

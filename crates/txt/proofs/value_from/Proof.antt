@@ -1,27 +1,28 @@
--- `policies::utf8::printable_end` meets its contract. Assumes nothing.
+-- `txt::value_from` meets its contract. Assumes nothing.
 use Prim.Native.Nat.{_+_, _-_}
 use mathlib.Core.Path.{_≡_}
 use lib.ListN.{length, drop}
 use Rattle.lists.specs.Span.{spanOf}
-use Rattle.policies.specs.Texts.{printable}
+use Rattle.txt.specs.Paper.{valueByte}
 use Rattle.lists.proofs.Span.{past-laws}
-use Rattle.policies.proofs.utf8.printable_end.Statement.{statement}
-use Rattle.policies.proofs.utf8.printable_end.Tie as tie
+use Rattle.txt.proofs.value_from.Statement.{statement}
+use Rattle.txt.proofs.value_from.Tie as tie
 
 abbrev Inv-loop : tie.InvT-loop
-Inv-loop s from i₀ i = from + spanOf printable (drop from s) ≡ i + spanOf printable (drop i s)
+Inv-loop t from i₀ i = from + spanOf valueByte (drop from t) ≡ i + spanOf valueByte (drop i t)
 
 abbrev μ-loop : tie.MeasureT-loop
-μ-loop s from i₀ i = length s - i
+μ-loop t from i₀ i = length t - i
 
 loop-holds : tie.Need-loop-holds Inv-loop μ-loop
 loop-holds c = search past-laws
 
-shared-slice-read-is-printable : tie.Need-shared-slice-read-is-printable Inv-loop μ-loop
-shared-slice-read-is-printable c = search past-laws
+shared-slice-read-is-value-byte :
+    tie.Need-shared-slice-read-is-value-byte Inv-loop μ-loop
+shared-slice-read-is-value-byte c = search past-laws
 
-is-printable-requires : tie.Need-is-printable-requires Inv-loop μ-loop
-is-printable-requires c κs = search past-laws
+is-value-byte-requires : tie.Need-is-value-byte-requires Inv-loop μ-loop
+is-value-byte-requires c κs = search past-laws
 
 returns : tie.Need-returns Inv-loop μ-loop
 returns c = search past-laws
@@ -38,15 +39,15 @@ loop-again c = search past-laws
 returns-2 : tie.Need-returns-2 Inv-loop μ-loop
 returns-2 c = search past-laws
 
-pub printable-end-spec : {M : Type 1} → statement M
-printable-end-spec =
+pub value-from-spec : {M : Type 1} → statement M
+value-from-spec =
     tie.close
     (tie.spec
     Inv-loop
     μ-loop
     loop-holds
-    shared-slice-read-is-printable
-    is-printable-requires
+    shared-slice-read-is-value-byte
+    is-value-byte-requires
     returns
     add-i
     loop-less

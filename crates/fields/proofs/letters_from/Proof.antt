@@ -1,21 +1,18 @@
--- `txt::letters_end` meets its contract. Assumes nothing.
-use Prim.Native.Nat.{_≤_, _+_, _-_}
+-- `fields::letters_from` meets its contract. Assumes nothing.
+use Prim.Native.Nat.{_+_, _-_}
 use mathlib.Core.Path.{_≡_}
 use lib.ListN.{length, drop}
 use Rattle.lists.specs.Span.{spanOf}
 use Rattle.fields.specs.Name.{letterOrDigit}
 use Rattle.lists.proofs.Span.{past-laws}
-use Rattle.txt.proofs.letters_end.Statement.{statement}
-use Rattle.txt.proofs.letters_end.Tie as tie
+use Rattle.fields.proofs.letters_from.Statement.{statement}
+use Rattle.fields.proofs.letters_from.Tie as tie
 
 abbrev Inv-loop : tie.InvT-loop
-Inv-loop t e i₀ i = (e + 1 ≤ i) × (e + 1 + spanOf letterOrDigit (drop (e + 1) t) ≡ i + spanOf letterOrDigit (drop i t))
+Inv-loop s from i₀ i = from + spanOf letterOrDigit (drop from s) ≡ i + spanOf letterOrDigit (drop i s)
 
 abbrev μ-loop : tie.MeasureT-loop
-μ-loop t e i₀ i = length t - i
-
-add-i : tie.Need-add-i Inv-loop μ-loop
-add-i c = search past-laws
+μ-loop s from i₀ i = length s - i
 
 loop-holds : tie.Need-loop-holds Inv-loop μ-loop
 loop-holds c = search past-laws
@@ -30,8 +27,8 @@ is-letter-or-digit-requires c κs = search past-laws
 returns : tie.Need-returns Inv-loop μ-loop
 returns c = search past-laws
 
-add-i-2 : tie.Need-add-i-2 Inv-loop μ-loop
-add-i-2 c = search past-laws
+add-i : tie.Need-add-i Inv-loop μ-loop
+add-i c = search past-laws
 
 loop-less : tie.Need-loop-less Inv-loop μ-loop
 loop-less c = search past-laws
@@ -42,18 +39,17 @@ loop-again c = search past-laws
 returns-2 : tie.Need-returns-2 Inv-loop μ-loop
 returns-2 c = search past-laws
 
-pub letters-end-spec : {M : Type 1} → statement M
-letters-end-spec =
+pub letters-from-spec : {M : Type 1} → statement M
+letters-from-spec =
     tie.close
     (tie.spec
     Inv-loop
     μ-loop
-    add-i
     loop-holds
     shared-slice-read-is-letter-or-digit
     is-letter-or-digit-requires
     returns
-    add-i-2
+    add-i
     loop-less
     loop-again
     returns-2)
