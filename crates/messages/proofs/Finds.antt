@@ -22,6 +22,7 @@ use Rattle.lists.proofs.All.{all-more}
 use Rattle.lists.proofs.Laws.{drop-next}
 use Rattle.messages.proofs.Arrays.{all-fails, no-verdict}
 use Rattle.messages.proofs.Order.{before-facts, hosts-ordered, hosts-next, hosts-end}
+use Rattle.messages.proofs.Ways.{verdict-next, with-next}
 
 -- the first host of a list that is not a "next host"
 unfoldable firstIn : List Host → Decider
@@ -140,6 +141,14 @@ module _ (ps vs : List ℕ) (count : ℕ) (full : length ps ≡ 32) (full₂ : l
         let e : k - 1 + 1 ≡ k = omega arith in
         rw (hosts-next (take count ps) (take count vs) (k - 1) j i, e, getD-take count ps (k - 1) 0 (omega arith), getD-take count vs (k - 1) 0 (omega arith), sym inv, sym rp, sym rv) gave
 
+    -- a "next host" changes nothing: t is what `is_next_host` gave
+    module _ (v : ℕ) (read : v ≡ getD vs (k - 1) 0) (t : Bool) (gave : t ≡ isNextHost v) (next : t ≡ true) where
+      pub walk-skip : (d : Decider) → d ≡ deciderOf (hostsFrom k (drop k (take count ps)) (drop k (take count vs))) → (p : ℕ) → p ≡ getD ps (k - 1) 0 → d ≡ deciderOf (hostsFrom (k - 1) (drop (k - 1) (take count ps)) (drop (k - 1) (take count vs)))
+      walk-skip d inv p rp = walk-next d inv p v rp read d (with-next p v (k - 1) d t gave next)
+
+      pub verdicts-skip : all isHostVerdict (drop k (take count vs)) ≡ true → all isHostVerdict (drop (k - 1) (take count vs)) ≡ true
+      verdicts-skip inv = verdicts-next v read true (verdict-next v t gave next) refl inv
+
   list-good : 0 < count → all isPreference (take count ps) ≡ true → all isHostVerdict (take count vs) ≡ true → isHostList (take count ps) (take count vs) ≡ true
   unfolding isHostList
   list-good pos p v = rw (length-ps, length-vs, le-leb 1 count pos, le-leb count 32 fits, eq-eqb count count refl, p, v)
@@ -152,4 +161,4 @@ module _ (ps vs : List ℕ) (count : ℕ) (full : length ps ≡ 32) (full₂ : l
       let f : d ≡ deciderOf (hostsOf (take count ps) (take count vs)) = rw i at inv in
       rw g (e ∙ (ap decidedBy f ∙ sym (decider-answers (take count ps) (take count vs))))
 
-pub ruleset walk-laws = (walk-start, preferences-start, verdicts-start, walk-bad, verdicts-next, preferences-next, walk-next, walk-end, not-true, not-false, needs)
+pub ruleset walk-laws = (walk-start, preferences-start, verdicts-start, walk-bad, verdicts-next, preferences-next, walk-next, walk-skip, verdicts-skip, walk-end, not-true, not-false, needs)

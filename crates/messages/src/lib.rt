@@ -139,14 +139,19 @@ fn walk_hosts(preferences: [u16; 32], verdicts: [u8; 32], count: usize) -> Messa
     let mut k = count;
     while 0 < k {
         let j = k - 1;
-        let v = lists::wide(verdicts[j]);
-        let right = is_host_verdict(v);
-        if !right {
-            return no_host(63);
-        }
         let p = wide(preferences[j]);
-        decider = with_host(p, v, j as u64, decider);
-        k = j;
+        let v = lists::wide(verdicts[j]);
+        let next = is_next_host(v);
+        if next {
+            k = j;
+        } else {
+            let right = is_host_verdict(v);
+            if !right {
+                return no_host(63);
+            }
+            decider = with_host(p, v, j as u64, decider);
+            k = j;
+        }
     }
     decided_by(decider)
 }
