@@ -2,9 +2,10 @@
  * What every fuzz target does with an input: decode it, ask the independent implementation and the library, and compare every
  * field of the answer and all lent memory. At a difference it prints the arguments and both answers and aborts.
  *
- * The library's archive is compiled without sanitizers, so it is asked three times: with copies on the heap of just their
+ * The library's archive is compiled without sanitizers, so it is asked four times: with copies on the heap of just their
  * size (the address sanitizer sees what memcpy does there, and empty slices are NULL), with copies that end at a page which
- * can't be touched, and with copies that begin after one. On the open side stand canary bytes.
+ * can't be touched, with copies that begin after one, and with copies in the open, at offsets from a boundary of 16 bytes that
+ * the input decides. On an open side stand other bytes, by the input too, which must be there after the call.
  *
  * FUZZ_SAY=1 in the environment prints the arguments and the answer of each input.
  */
@@ -20,14 +21,19 @@
 int LLVMFuzzerInitialize(int *argc, char ***argv);
 int LLVMFuzzerTestOneInput(const uint8_t *data, size_t size);
 
-enum { PAGE = 4096, CANARIES = 64, CANARY = 0xc5, ROOM = LONGEST + PAGE };
+enum { PAGE = 4096, NEAR = 32, BOUNDARY = 16, ROOM = LONGEST + PAGE };
 
-static const char *const places[] = {"on the heap", "before a guard page", "after a guard page"};
-enum { HEAP, BEFORE_GUARD, AFTER_GUARD, PLACES };
+static const char *const places[] = {"on the heap", "before a guard page", "after a guard page", "in the open"};
+enum { HEAP, BEFORE_GUARD, AFTER_GUARD, OPEN, PLACES };
+
+/* What may stand beside a slice: bytes that would go on with a text, end it, or spoil it, were they taken for a part of it. */
+#define KINDS "a0.\n\r \t-*:;=Z~\0\x80\xff"
+static const char beside[] = KINDS KINDS KINDS; /* NEAR bytes from each of the first on */
 
 static uint8_t decoded[MOST_SLICES][LONGEST];
 static uint8_t *rooms[MOST_SLICES]; /* ROOM bytes each, between two guard pages */
 static uint64_t answered[256];      /* how often each answer number came */
+static uint32_t turn;               /* decides the offsets, and what stands beside the slices */
 static int say;
 
 static size_t length_of(const char *const *names)
@@ -105,18 +111,42 @@ static void make_rooms(void)
     }
 }
 
-/* Where the canaries of a slice in its room begin. */
-static uint8_t *canaries_of(const struct bytes *slice, int place)
+/* A number of the input's own, most likely. */
+static uint32_t turn_of(const uint8_t *data, size_t size)
 {
-    return place == BEFORE_GUARD ? slice->at - CANARIES : slice->at + slice->length;
+    uint32_t sum = 0x811c9dc5u;
+    for (size_t i = 0; i < size; i++)
+        sum = (sum ^ data[i]) * 0x01000193u;
+    return sum >> 8;
+}
+
+/* Where slice i begins in its room. */
+static uint8_t *start_of(size_t i, size_t length, int place)
+{
+    if (place == OPEN)
+        return rooms[i] + NEAR + (turn + turn / BOUNDARY * i) % BOUNDARY;
+    return place == BEFORE_GUARD ? rooms[i] + ROOM - length : rooms[i];
+}
+
+/* What stands beside slice i: one kind of byte, or all in turn. */
+static void fill_beside(size_t i, uint8_t *bytes)
+{
+    const char *from = beside + (turn + i) % (sizeof KINDS - 1);
+    if (turn / BOUNDARY % 2 == 0)
+        memset(bytes, *from, NEAR);
+    else
+        memcpy(bytes, from, NEAR);
 }
 
 static struct bytes lend(size_t i, const struct bytes *slice, int place)
 {
     struct bytes lent = {NULL, slice->length};
     if (place != HEAP) {
-        lent.at = place == BEFORE_GUARD ? rooms[i] + ROOM - slice->length : rooms[i];
-        memset(canaries_of(&lent, place), CANARY, CANARIES);
+        lent.at = start_of(i, slice->length, place);
+        if (place != AFTER_GUARD)
+            fill_beside(i, lent.at - NEAR);
+        if (place != BEFORE_GUARD)
+            fill_beside(i, lent.at + lent.length);
     } else if (slice->length > 0 && (lent.at = malloc(slice->length)) == NULL) {
         perror("fuzz");
         exit(2);
@@ -131,13 +161,13 @@ static int same(const struct bytes *a, const struct bytes *b)
     return a->length == 0 || memcmp(a->at, b->at, a->length) == 0;
 }
 
-static int canaries_stand(const struct bytes *lent, int place)
+/* For a slice in its room. */
+static int same_beside(size_t i, const struct bytes *lent, int place)
 {
-    const uint8_t *at = canaries_of(lent, place);
-    for (size_t i = 0; i < CANARIES; i++)
-        if (at[i] != CANARY)
-            return 0;
-    return 1;
+    uint8_t expected[NEAR];
+    fill_beside(i, expected);
+    return (place == AFTER_GUARD || memcmp(lent->at - NEAR, expected, NEAR) == 0)
+        && (place == BEFORE_GUARD || memcmp(lent->at + lent->length, expected, NEAR) == 0);
 }
 
 /* ------------------------------------------------------------------------------------------------------------ the calls */
@@ -148,7 +178,7 @@ static void check_slices(const struct call *call, const struct call *lent, const
     for (size_t i = 0; target.slices[i] != NULL; i++) {
         if (!same(&lent->slices[i], is_output(i) ? output : &call->slices[i]))
             fail(call, target.slices[i], is_output(i) ? "differs after the call" : "was changed by the call", place);
-        if (place != HEAP && !canaries_stand(&lent->slices[i], place))
+        if (place != HEAP && !same_beside(i, &lent->slices[i], place))
             fail(call, target.slices[i], "had a byte beside it changed by the call", place);
     }
 }
@@ -188,6 +218,7 @@ int LLVMFuzzerTestOneInput(const uint8_t *data, size_t size)
     for (size_t i = 0; i < MOST_SLICES; i++)
         call.slices[i].at = decoded[i];
     target.decode((struct text){data, size}, &call);
+    turn = turn_of(data, size);
     if (say)
         print_call(&call);
 

@@ -1,7 +1,7 @@
 /*
  * How inputs are changed. The fuzzer's own changes mostly break what a line says; since inputs are lines of text full of
- * digits (codes, sizes, records, preferences), half of the changes are of a digit, a line or an item, and an input may take a
- * line from another that has it too.
+ * digits (codes, sizes, records, preferences), half of the changes are of a digit, a line, an item or the length of a word, and
+ * an input may take a line from another that has it too.
  */
 #include "decode.h"
 
@@ -77,13 +77,40 @@ static size_t move_part(uint8_t *data, size_t size, size_t most, uint8_t end)
     return replace(data, size, most, place, copy, part.length);
 }
 
+static int is_word_byte(uint8_t byte)
+{
+    return (byte >= '0' && byte <= '9') || (byte >= 'A' && byte <= 'Z') || (byte >= 'a' && byte <= 'z');
+}
+
+/* The letters and digits around a place are cut or repeated to another length: one about which code may look at words, or any. */
+static size_t resize_word(uint8_t *data, size_t size, size_t most, size_t at)
+{
+    enum { LONGEST_WORD = 72 };
+    static const uint8_t lengths[] = {7, 8, 9, 15, 16, 17, 31, 32, 33, 63, 64, 65, LONGEST_WORD};
+    uint8_t word[LONGEST_WORD];
+    struct part part = {at, 0};
+    size_t length = below(2) ? lengths[below(sizeof lengths)] : below(LONGEST_WORD + 1);
+    while (part.start > 0 && is_word_byte(data[part.start - 1]))
+        part.start--;
+    while (part.start + part.length < size && is_word_byte(data[part.start + part.length]))
+        part.length++;
+    if (part.length == 0)
+        return size;
+    for (size_t i = 0; i < length; i++)
+        word[i] = data[part.start + i % part.length];
+    return replace(data, size, most, part, word, length);
+}
+
 size_t LLVMFuzzerCustomMutator(uint8_t *data, size_t size, size_t most, unsigned int seed)
 {
     state = seed;
     if (size == 0 || below(2) == 0)
         return LLVMFuzzerMutate(data, size, most);
-    if (below(2) == 0)
+    uint32_t choice = below(5);
+    if (choice < 2)
         return change_digit(data, size, below(size));
+    if (choice == 2)
+        return resize_word(data, size, most, below(size));
     return move_part(data, size, most, below(2) ? '\n' : ' ');
 }
 

@@ -1,9 +1,11 @@
 //! The archive's four functions as the C boundary declares them, and safe wrappers.
 //!
-//! Every slice is lent as a copy, in one of several ways, chosen per call: an empty one as NULL or as a pointer of its own; another
-//! one before a page that can't be touched (reading past it stops the program), after such a page, or in the middle, at an odd
-//! place. After the call each copy must still hold what it held; around the output stand canary bytes.
+//! Every slice is lent as a copy, in one of several ways, chosen per call: before a page that can't be touched (reading past the
+//! slice stops the program), after such a page, or in the open, at some offset from a boundary of 16 bytes; an empty one also as
+//! NULL. Other bytes stand beside it, which change from call to call. After the call each copy must still hold what it held, and
+//! what stands beside it too.
 
+use crate::random::Random;
 use independent_rules::exports::{Host, Message, Policy, Txt};
 use independent_rules::rules::{HostAnswer, HostCall, MessageAnswer, PolicyAnswer, TxtAnswer};
 use std::cell::Cell;
@@ -60,13 +62,13 @@ extern "C" {
 }
 
 thread_local! {
-    /// The case that this thread runs: seed, call, case. For the report when the library touches what it was not lent.
-    pub static CURRENT: Cell<(u64, usize, u64)> = const { Cell::new((0, 0, 0)) };
+    /// The case that this thread runs: seed, part, case. For the report when the library touches what it was not lent.
+    pub static CURRENT: Cell<(u64, &'static str, u64)> = const { Cell::new((0, "", 0)) };
 }
 
 extern "C" fn on_fault(number: i32) {
-    let (seed, call, case) = CURRENT.with(|c| c.get());
-    println!("FAULT (signal {number}): seed {seed} call {call} case {case}");
+    let (seed, part, case) = CURRENT.with(|c| c.get());
+    println!("FAULT (signal {number}): seed {seed} {part} case {case}");
     std::process::exit(1);
 }
 
@@ -80,20 +82,55 @@ pub fn report_faults() {
 
 const PAGE: usize = 4096;
 const ROOM: usize = 44 * PAGE;
-const CANARY: usize = 64;
-const SLOTS: usize = 17; // the host call's slices
+const BOUNDARY: usize = 16;
+const SLOTS: usize = 16; // the host call's slices
 
-/// How the slices of a call are lent.
-#[derive(Clone, Copy, PartialEq, Debug)]
-pub enum Place {
-    Middle,
+/// How many bytes beside a slice are set and looked at again.
+const NEAR: usize = 32;
+/// What may stand there, one of them alone or all in turn: bytes that would go on with a text, end it, or spoil it, were they
+/// taken for a part of the slice. They are more than the slots, so that no two slots have the same beside them.
+const BESIDE: &[u8; 17] = b"a0.\n\r \t-*:;=Z~\0\x80\xff";
+
+/// Where the slices of a call are lent.
+#[derive(Clone, Copy, Debug)]
+pub enum Side {
+    /// The first slice so many bytes after a boundary; how the others stand to it changes with the turn.
+    Open(usize),
     BeforeGuard,
     AfterGuard,
+}
+
+/// How the slices of a call are lent. The turn decides what stands beside them, and whether an empty one is NULL.
+#[derive(Clone, Copy, Debug)]
+pub struct Place {
+    pub side: Side,
+    pub turn: usize,
+}
+
+impl Place {
+    pub fn random(r: &mut Random) -> Place {
+        let open = Side::Open(r.below(BOUNDARY));
+        let side = *r.pick(&[open, Side::BeforeGuard, Side::AfterGuard]);
+        Place { side, turn: r.below(2 * BOUNDARY * BESIDE.len()) }
+    }
+
+    /// Each side once. From case to case a side's turns go through all that may stand beside a slice.
+    pub fn each(case: u64) -> impl Iterator<Item = Place> {
+        let open = (0..BOUNDARY).map(Side::Open);
+        let turns = case as usize * (BOUNDARY + 3)..;
+        [Side::BeforeGuard, Side::AfterGuard].into_iter().chain(open).zip(turns).map(|(side, turn)| Place { side, turn })
+    }
+
+    /// Whether a slice of this length is NULL.
+    fn is_null(&self, length: usize) -> bool {
+        length == 0 && self.turn % 2 == 1
+    }
 }
 
 /// Memory with untouchable pages around each slot. One for each thread.
 pub struct Lender {
     slots: Vec<*mut u8>,
+    beside: Vec<[u8; NEAR]>,
 }
 
 impl Lender {
@@ -109,81 +146,86 @@ impl Lender {
                 slots.push(middle);
             }
         }
-        Lender { slots }
+        let alone = BESIDE.iter().map(|&b| [b; NEAR]);
+        let in_turn = (0..BESIDE.len()).map(|first| std::array::from_fn(|i| BESIDE[(first + i) % BESIDE.len()]));
+        Lender { slots, beside: alone.chain(in_turn).collect() }
     }
 
-    fn offset(slot: usize, length: usize, place: Place) -> usize {
-        assert!(length + 2 * CANARY + 8 * SLOTS <= ROOM, "a slice too long for the lender");
-        match place {
-            Place::Middle => CANARY + 7 * slot,
-            Place::BeforeGuard => ROOM - length,
-            Place::AfterGuard => 0,
-        }
+    /// What stands beside the slice of a slot.
+    fn beside(&self, slot: usize, place: Place) -> [u8; NEAR] {
+        self.beside[(place.turn + slot) % self.beside.len()]
+    }
+
+    /// Of a slot: what stands before a slice of this length, the slice, and what stands after it.
+    fn parts(&mut self, slot: usize, length: usize, place: Place) -> [&mut [u8]; 3] {
+        assert!(length + 2 * NEAR + BOUNDARY <= ROOM, "a slice too long for the lender");
+        let start = match place.side {
+            Side::Open(offset) => NEAR + (offset + place.turn * slot) % BOUNDARY,
+            Side::BeforeGuard => ROOM - length,
+            Side::AfterGuard => 0,
+        };
+        let end = start + length;
+        // SAFETY: the slot has ROOM bytes, and the library keeps no pointer into it.
+        let room = unsafe { std::slice::from_raw_parts_mut(self.slots[slot], ROOM) };
+        let (front, after) = room[..(end + NEAR).min(ROOM)].split_at_mut(end);
+        let (before, slice) = front.split_at_mut(start);
+        [&mut before[start.saturating_sub(NEAR)..], slice, after]
     }
 
     /// The pointer for a slice: NULL, or a copy in the slot.
-    fn lend(&mut self, slot: usize, s: &[u8], place: Place, null: bool) -> *const u8 {
-        if s.is_empty() && null {
-            return std::ptr::null();
+    fn lend(&mut self, slot: usize, s: &[u8], place: Place) -> *mut u8 {
+        if place.is_null(s.len()) {
+            return std::ptr::null_mut();
         }
-        // SAFETY: the slot has ROOM bytes, and the slice fits.
-        unsafe {
-            let at = self.slots[slot].add(Self::offset(slot, s.len(), place));
-            std::ptr::copy_nonoverlapping(s.as_ptr(), at, s.len());
-            at
-        }
+        let beside = self.beside(slot, place);
+        let [before, slice, after] = self.parts(slot, s.len(), place);
+        before.copy_from_slice(&beside[..before.len()]);
+        slice.copy_from_slice(s);
+        after.copy_from_slice(&beside[..after.len()]);
+        slice.as_mut_ptr()
     }
 
-    /// Panics if the lent copy no longer holds the slice.
-    fn check(&self, at: *const u8, s: &[u8]) {
-        if !s.is_empty() {
-            // SAFETY: `at` came of `lend` for this slice and nothing else has been lent in the slot since.
-            let now = unsafe { std::slice::from_raw_parts(at, s.len()) };
-            assert!(now == s, "an input was changed by the call");
+    /// Panics if the lent copy no longer holds the slice, or a byte beside it has changed.
+    fn check(&mut self, slot: usize, s: &[u8], place: Place) {
+        if place.is_null(s.len()) {
+            return;
         }
+        let beside = self.beside(slot, place);
+        let [before, slice, after] = self.parts(slot, s.len(), place);
+        assert!(slice == s, "an input was changed by the call");
+        let same = *before == beside[..before.len()] && *after == beside[..after.len()];
+        assert!(same, "a byte beside a slice was changed by the call");
     }
 
-    /// The output is copied into a slot with canary bytes around it (as far as no guard page stands there), and back.
-    pub fn read_txt(&mut self, rdatas: &[u8], lengths: &[u8], output: &mut [u8], place: Place, null: bool) -> TxtAnswer {
-        let (r, l) = (self.lend(0, rdatas, place, null), self.lend(1, lengths, place, null));
-        let offset = Self::offset(2, output.len(), place);
-        let (low, high) = (offset.saturating_sub(CANARY), (offset + output.len() + CANARY).min(ROOM));
-        let slot = self.slots[2];
-        // SAFETY: low to high lies in the slot, and the output between; the boundary is given valid slices that don't overlap.
-        let (a, around) = unsafe {
-            std::ptr::write_bytes(slot.add(low), 0xc5, high - low);
-            let at = slot.add(offset);
-            std::ptr::copy_nonoverlapping(output.as_ptr(), at, output.len());
-            let o = if output.is_empty() && null { std::ptr::null_mut() } else { at };
-            let a = tweedstork_read_txt(r, rdatas.len(), l, lengths.len(), o, output.len());
-            std::ptr::copy_nonoverlapping(at, output.as_mut_ptr(), output.len());
-            let before = std::slice::from_raw_parts(slot.add(low), offset - low);
-            let after = std::slice::from_raw_parts(at.add(output.len()), high - offset - output.len());
-            (a, before.iter().chain(after).all(|&b| b == 0xc5))
-        };
-        assert!(around, "a byte beside the output was changed by the call");
-        self.check(r, rdatas);
-        self.check(l, lengths);
+    /// The output is copied back.
+    pub fn read_txt(&mut self, rdatas: &[u8], lengths: &[u8], output: &mut [u8], place: Place) -> TxtAnswer {
+        let (r, o, l) = (self.lend(0, rdatas, place), self.lend(1, output, place), self.lend(2, lengths, place));
+        // SAFETY: valid slices that don't overlap.
+        let a = unsafe { tweedstork_read_txt(r, rdatas.len(), l, lengths.len(), o, output.len()) };
+        output.copy_from_slice(self.parts(1, output.len(), place)[1]);
+        self.check(0, rdatas, place);
+        self.check(1, output, place);
+        self.check(2, lengths, place);
         (a.number, a.id_start, a.id_length)
     }
 
-    pub fn read_policy(&mut self, body: &[u8], place: Place, null: bool) -> PolicyAnswer {
-        let b = self.lend(0, body, place, null);
+    pub fn read_policy(&mut self, body: &[u8], place: Place) -> PolicyAnswer {
+        let b = self.lend(0, body, place);
         // SAFETY: a valid slice.
         let a = unsafe { tweedstork_read_policy(b, body.len()) };
-        self.check(b, body);
+        self.check(0, body, place);
         (a.number, a.mode, a.lifetime, a.mx_count)
     }
 
-    pub fn judge_host(&mut self, c: &HostCall, place: Place, null: bool) -> HostAnswer {
-        let slices: [&[u8]; 16] = [
+    pub fn judge_host(&mut self, c: &HostCall, place: Place) -> HostAnswer {
+        let slices: [&[u8]; SLOTS] = [
             &c.next_hop, &c.host, &c.expanded, &c.policy, &c.tlsa[0].lengths, &c.tlsa[0].records, &c.tlsa[1].lengths,
             &c.tlsa[1].records, &c.certificates, &c.certificate_lengths, &c.key_places, &c.digests, &c.paths, &c.dns_ids,
             &c.dns_id_lengths, &c.common_name,
         ];
-        let mut p = [std::ptr::null(); 16];
+        let mut p = [std::ptr::null_mut(); SLOTS];
         for (i, s) in slices.iter().enumerate() {
-            p[i] = self.lend(i, s, place, null);
+            p[i] = self.lend(i, s, place);
         }
         // SAFETY: valid slices.
         #[rustfmt::skip]
@@ -199,19 +241,17 @@ impl Lender {
                 p[13], c.dns_ids.len(), p[14], c.dns_id_lengths.len(), c.common_name_given, p[15], c.common_name.len())
         };
         for (i, s) in slices.iter().enumerate() {
-            if !p[i].is_null() {
-                self.check(p[i], s);
-            }
+            self.check(i, s, place);
         }
         (a.number, a.tlsa_questions)
     }
 
-    pub fn next_host(&mut self, mx_lookup: u64, preferences: &[u8], verdicts: &[u8], place: Place, null: bool) -> MessageAnswer {
-        let (p, v) = (self.lend(0, preferences, place, null), self.lend(1, verdicts, place, null));
+    pub fn next_host(&mut self, mx_lookup: u64, preferences: &[u8], verdicts: &[u8], place: Place) -> MessageAnswer {
+        let (p, v) = (self.lend(0, preferences, place), self.lend(1, verdicts, place));
         // SAFETY: valid slices.
         let a = unsafe { tweedstork_next_host(mx_lookup, p, preferences.len(), v, verdicts.len()) };
-        self.check(p, preferences);
-        self.check(v, verdicts);
+        self.check(0, preferences, place);
+        self.check(1, verdicts, place);
         (a.number, a.position)
     }
 }

@@ -93,7 +93,8 @@ pub fn run_case(lender: &mut Lender, seed: u64, case: u64) -> Result<u64, String
         4 => c.certificates_given = 0,
         _ => {}
     }
-    let mut ask = |c: &HostCall| -> HostAnswer { lender.judge_host(c, Place::Middle, false) };
+    let place = Place::random(&mut r);
+    let mut ask = |c: &HostCall| -> HostAnswer { lender.judge_host(c, place) };
     let (number, questions) = ask(&c);
     if number >= 40 {
         return Ok(number);

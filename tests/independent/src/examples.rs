@@ -1,9 +1,12 @@
 //! Document 01's "Cases on both sides" and a few more, with their answers written down: they hold the rules here and the library
 //! to the paper itself, not only to each other.
 
-use crate::boundary::{Lender, Place};
+use crate::boundary::{Lender, Place, Side};
 use crate::inputs::list;
 use independent_rules::rules::{self, HostCall, TlsaAnswer};
+
+const MIDDLE: Place = Place { side: Side::Open(0), turn: 0 };
+const BEFORE_GUARD: Place = Place { side: Side::BeforeGuard, turn: 1 };
 
 struct Check<'a> {
     lender: &'a mut Lender,
@@ -24,7 +27,7 @@ impl Check<'_> {
         let lengths = list(&[rdata.len() as u64]);
         let (mut a, mut b) = ([0xee; 80], [0xee; 80]);
         let ours = rules::read_txt(&rdata, &lengths, &mut a);
-        let theirs = self.lender.read_txt(&rdata, &lengths, &mut b, Place::Middle, false);
+        let theirs = self.lender.read_txt(&rdata, &lengths, &mut b, MIDDLE);
         let mut output = [0xee; 80];
         if wanted.0 == 6 || wanted.0 == 42 {
             output[..text.len()].copy_from_slice(text.as_bytes());
@@ -34,30 +37,30 @@ impl Check<'_> {
 
     fn policy(&mut self, body: &str, wanted: (u64, u64, u64, u64)) {
         let ours = rules::read_policy(body.as_bytes());
-        let theirs = self.lender.read_policy(body.as_bytes(), Place::BeforeGuard, true);
+        let theirs = self.lender.read_policy(body.as_bytes(), BEFORE_GUARD);
         self.same(body, wanted, ours, theirs);
     }
 
     fn host(&mut self, what: &str, call: &HostCall, wanted: (u64, u64)) {
         let ours = rules::judge_host(call);
-        let theirs = self.lender.judge_host(call, Place::BeforeGuard, true);
+        let theirs = self.lender.judge_host(call, BEFORE_GUARD);
         self.same(what, wanted, ours, theirs);
     }
 
     fn message(&mut self, preferences: &[u64], verdicts: &[u64], wanted: (u64, u64)) {
         let (p, v) = (list(preferences), list(verdicts));
         let ours = rules::next_host(1, &p, &v);
-        let theirs = self.lender.next_host(1, &p, &v, Place::BeforeGuard, true);
+        let theirs = self.lender.next_host(1, &p, &v, BEFORE_GUARD);
         self.same("message", wanted, ours, theirs);
     }
 }
 
-fn one_record(record: &[u8]) -> TlsaAnswer {
+pub fn one_record(record: &[u8]) -> TlsaAnswer {
     TlsaAnswer { result: 1, lengths: list(&[record.len() as u64]), records: record.to_vec() }
 }
 
 /// A plain host with a secure answer of no records and no policy; nothing more given.
-fn plain() -> HostCall {
+pub fn plain() -> HostCall {
     HostCall {
         clock: 605_799,
         next_hop: b"example.com".to_vec(),

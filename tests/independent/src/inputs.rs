@@ -7,14 +7,14 @@ pub fn list(numbers: &[u64]) -> Vec<u8> {
     numbers.iter().flat_map(|&n| (n as u32).to_be_bytes()).collect()
 }
 
-fn lengths_of(parts: &[Vec<u8>]) -> Vec<u64> {
+pub fn lengths_of(parts: &[Vec<u8>]) -> Vec<u64> {
     parts.iter().map(|p| p.len() as u64).collect()
 }
 
 /// Bytes at the edges of the classes that the rules speak of.
-const EDGES: &[u8] = b"\0\x01\t\n\r\x1f !\"*+,-./09:;<=>?@AZ[\\_`az{|~\x7f\x80\xa0\xbf\xc0\xc1\xc2\xdf\xe0\xed\xef\xf0\xf4\xf5\xff";
+pub const EDGES: &[u8] = b"\0\x01\t\n\r\x1f !\"*+,-./09:;<=>?@AZ[\\_`az{|~\x7f\x80\xa0\xbf\xc0\xc1\xc2\xdf\xe0\xed\xef\xf0\xf4\xf5\xff";
 
-const LETTERS: &[u8] = b"abcdefghijklmnopqrstuvwxyzABCDEFGHIJKLMNOPQRSTUVWXYZ0123456789";
+pub const LETTERS: &[u8] = b"abcdefghijklmnopqrstuvwxyzABCDEFGHIJKLMNOPQRSTUVWXYZ0123456789";
 
 fn letters(r: &mut Random, n: usize) -> Vec<u8> {
     (0..n).map(|_| *r.pick(LETTERS)).collect()
@@ -402,16 +402,17 @@ pub fn txt(r: &mut Random) -> (Vec<u8>, Vec<u8>, Vec<u8>) {
 
 // ------------------------------------------------------------------------------------------------------------------- policy
 
+/// The edges of RFC 3629, on both sides.
+pub const UTF8_EDGES: &[&[u8]] = &[
+    b"\xc2\x80", b"\xdf\xbf", b"\xc1\xbf", b"\xc0\x80", b"\xe0\xa0\x80", b"\xe0\x9f\xbf", b"\xed\x9f\xbf", b"\xed\xa0\x80",
+    b"\xee\x80\x80", b"\xef\xbf\xbf", b"\xf0\x90\x80\x80", b"\xf0\x8f\xbf\xbf", b"\xf4\x8f\xbf\xbf", b"\xf4\x90\x80\x80",
+    b"\xf5\x80\x80\x80", b"\xc2", b"\xe1\x80", b"\xf1\x80\x80", b"\x80", b"\xbf", b"\xc2\x7f", b"\xc2\xc0", b"\xe1\x80\xc0",
+    b"\xe1\x7f\x80", b"\xf1\x80\x80\x7f", b"\xf1\x80\xc0\x80", b"\xf3\xbf\xbf\xbf", b"\xec\xbf\xbf", b"\xf8\x88\x80\x80\x80",
+];
+
 fn utf8_piece(r: &mut Random) -> Vec<u8> {
     if r.once_in(4) {
-        // the edges of RFC 3629, on both sides
-        let edges: &[&[u8]] = &[
-            b"\xc2\x80", b"\xdf\xbf", b"\xc1\xbf", b"\xc0\x80", b"\xe0\xa0\x80", b"\xe0\x9f\xbf", b"\xed\x9f\xbf", b"\xed\xa0\x80",
-            b"\xee\x80\x80", b"\xef\xbf\xbf", b"\xf0\x90\x80\x80", b"\xf0\x8f\xbf\xbf", b"\xf4\x8f\xbf\xbf", b"\xf4\x90\x80\x80",
-            b"\xf5\x80\x80\x80", b"\xc2", b"\xe1\x80", b"\xf1\x80\x80", b"\x80", b"\xbf", b"\xc2\x7f", b"\xc2\xc0", b"\xe1\x80\xc0",
-            b"\xe1\x7f\x80", b"\xf1\x80\x80\x7f", b"\xf1\x80\xc0\x80", b"\xf3\xbf\xbf\xbf", b"\xec\xbf\xbf", b"\xf8\x88\x80\x80\x80",
-        ];
-        return r.pick(edges).to_vec();
+        return r.pick(UTF8_EDGES).to_vec();
     }
     loop {
         let code = match r.below(3) {
@@ -427,8 +428,9 @@ fn utf8_piece(r: &mut Random) -> Vec<u8> {
 
 fn extension_value(r: &mut Random) -> Vec<u8> {
     let mut v = Vec::new();
-    for _ in 0..r.between(1, 6) {
-        match r.below(8) {
+    let pieces = if r.once_in(6) { r.between(7, 72) } else { r.between(1, 6) };
+    for _ in 0..pieces {
+        match r.below(if pieces > 6 { 40 } else { 8 }) {
             0 => v.extend(utf8_piece(r)),
             1 => v.push(b' '),
             2 if r.once_in(20) => v.push(b'\t'),
@@ -636,7 +638,7 @@ fn chain(r: &mut Random) -> Chain {
         } else if r.once_in(30) {
             r.below(3)
         } else {
-            r.between(4, 60)
+            r.between(4, 80)
         };
         let bytes = if i > 0 && r.once_in(12) { c.certificates[0].clone() } else { r.bytes(size) };
         let size = bytes.len();

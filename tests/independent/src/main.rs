@@ -1,13 +1,15 @@
 //! Differential tests: the library's C boundary against an independent writing of document 01's rules.
 //!
 //! independent [CASES [SEED]]: CASES inputs for each call (2,500,000 unless given; environment INDEPENDENT_CASES), from SEED
-//! (environment INDEPENDENT_SEED). INDEPENDENT_ONLY=CALL:CASE runs a single case (CALL: txt, policy, host, message) and prints
-//! it, with what both answer.
+//! (environment INDEPENDENT_SEED). INDEPENDENT_ONLY=CALL:CASE runs a single case (CALL: txt, policy, host, message, lengths) and
+//! prints it, with what both answer.
 
+mod arguments;
 mod boundary;
 mod completions;
 mod examples;
 mod inputs;
+mod lengths;
 mod random;
 
 use boundary::{Lender, Place};
@@ -20,14 +22,6 @@ use std::time::Instant;
 
 const CALLS: [&str; 4] = ["txt", "policy", "host", "message"];
 const THREADS: u64 = 2;
-
-fn hex(s: &[u8]) -> String {
-    let mut out = format!("[{}] ", s.len());
-    for b in s {
-        out.push_str(&format!("{b:02x}"));
-    }
-    out
-}
 
 /// What a case ended in: the library's answer number, whether the two agree, and what to print of it.
 struct Outcome {
@@ -43,73 +37,33 @@ fn outcome<T: Debug + PartialEq + 'static>(number: u64, ours: T, theirs: T, argu
 
 fn run_case(lender: &mut Lender, seed: u64, call: usize, case: u64) -> Outcome {
     let mut r = Random::new(seed, call as u64, case);
-    let place = *r.pick(&[Place::Middle, Place::BeforeGuard, Place::AfterGuard]);
-    let null = r.once_in(2);
+    let place = Place::random(&mut r);
     match call {
         0 => {
             let (rdatas, lengths, output) = inputs::txt(&mut r);
             let (mut ours_output, mut theirs_output) = (output.clone(), output.clone());
             let ours = rules::read_txt(&rdatas, &lengths, &mut ours_output);
-            let theirs = lender.read_txt(&rdatas, &lengths, &mut theirs_output, place, null);
+            let theirs = lender.read_txt(&rdatas, &lengths, &mut theirs_output, place);
             let (a, b) = ((ours, ours_output), (theirs, theirs_output));
-            outcome(theirs.0, a, b, move || {
-                format!("  rdatas {}\n  lengths {}\n  output {}", hex(&rdatas), hex(&lengths), hex(&output))
-            })
+            outcome(theirs.0, a, b, move || arguments::txt(&rdatas, &lengths, &output))
         }
         1 => {
             let body = inputs::policy(&mut r);
             let ours = rules::read_policy(&body);
-            let theirs = lender.read_policy(&body, place, null);
-            outcome(theirs.0, ours, theirs, move || format!("  body {}\n  {:?}", hex(&body), String::from_utf8_lossy(&body)))
+            let theirs = lender.read_policy(&body, place);
+            outcome(theirs.0, ours, theirs, move || arguments::policy(&body))
         }
         2 => {
             let c = inputs::host(&mut r);
             let ours = rules::judge_host(&c);
-            let theirs = lender.judge_host(&c, place, null);
-            outcome(theirs.0, ours, theirs, move || {
-                let n = |name: &str, number: u64| format!("  {name} {number}\n");
-                let s = |name: &str, slice: &[u8]| format!("  {name} {} {:?}\n", hex(slice), String::from_utf8_lossy(slice));
-                [
-                    n("clock", c.clock),
-                    s("next_hop", &c.next_hop),
-                    n("origin", c.origin),
-                    s("host", &c.host),
-                    n("address", c.address),
-                    s("expanded", &c.expanded),
-                    n("policy_given", c.policy_given),
-                    s("policy", &c.policy),
-                    n("fetched", c.fetched),
-                    n("tlsa_answers", c.tlsa_answers),
-                    n("tlsa1_result", c.tlsa[0].result),
-                    s("tlsa1_lengths", &c.tlsa[0].lengths),
-                    s("tlsa1_records", &c.tlsa[0].records),
-                    n("tlsa2_result", c.tlsa[1].result),
-                    s("tlsa2_lengths", &c.tlsa[1].lengths),
-                    s("tlsa2_records", &c.tlsa[1].records),
-                    n("starttls", c.starttls),
-                    n("handshake", c.handshake),
-                    n("certificates_given", c.certificates_given),
-                    s("certificates", &c.certificates),
-                    s("certificate_lengths", &c.certificate_lengths),
-                    s("key_places", &c.key_places),
-                    s("digests", &c.digests),
-                    s("paths", &c.paths),
-                    n("trusted_root", c.trusted_root),
-                    s("dns_ids", &c.dns_ids),
-                    s("dns_id_lengths", &c.dns_id_lengths),
-                    n("common_name_given", c.common_name_given),
-                    s("common_name", &c.common_name),
-                ]
-                .concat()
-            })
+            let theirs = lender.judge_host(&c, place);
+            outcome(theirs.0, ours, theirs, move || arguments::host(&c))
         }
         _ => {
             let (lookup, preferences, verdicts) = inputs::message(&mut r);
             let ours = rules::next_host(lookup, &preferences, &verdicts);
-            let theirs = lender.next_host(lookup, &preferences, &verdicts, place, null);
-            outcome(theirs.0, ours, theirs, move || {
-                format!("  mx_lookup {lookup}\n  preferences {}\n  verdicts {}", hex(&preferences), hex(&verdicts))
-            })
+            let theirs = lender.next_host(lookup, &preferences, &verdicts, place);
+            outcome(theirs.0, ours, theirs, move || arguments::message(lookup, &preferences, &verdicts))
         }
     }
 }
@@ -124,7 +78,7 @@ fn report(seed: u64, call: usize, case: u64, o: &Outcome) {
 /// The cases of one call; a difference ends the program.
 fn run(lender: &mut Lender, seed: u64, call: usize, cases: std::ops::Range<u64>, table: &mut Table) {
     for case in cases {
-        boundary::CURRENT.with(|c| c.set((seed, call, case)));
+        boundary::CURRENT.with(|c| c.set((seed, CALLS[call], case)));
         let o = std::panic::catch_unwind(AssertUnwindSafe(|| run_case(lender, seed, call, case))).unwrap_or_else(|_| {
             println!("FAILED: seed {seed} call {} case {case}", CALLS[call]);
             std::process::exit(1)
@@ -156,13 +110,18 @@ fn main() {
     println!("independent: seed {seed}, {cases} cases a call");
     if let Ok(only) = std::env::var("INDEPENDENT_ONLY") {
         let (call, case) = only.split_once(':').expect("CALL:CASE");
-        let call = CALLS.iter().position(|c| *c == call).expect("a call: txt, policy, host or message");
         let case = case.parse().expect("a case number");
+        if call == "lengths" {
+            lengths::run(&mut lender, Some(case));
+            return;
+        }
+        let call = CALLS.iter().position(|c| *c == call).expect("a call: txt, policy, host, message or lengths");
         report(seed, call, case, &run_case(&mut lender, seed, call, case));
         return;
     }
     let mut passed = examples::run(&mut lender);
     println!("{passed} fixed examples passed");
+    passed += lengths::run(&mut lender, None);
     for (call, title) in CALLS.iter().enumerate() {
         let begun = Instant::now();
         let mut table = Table::new();
@@ -177,7 +136,7 @@ fn main() {
     let mut table = Table::new();
     let some = cases / 4;
     for case in 0..some {
-        boundary::CURRENT.with(|c| c.set((seed, 4, case)));
+        boundary::CURRENT.with(|c| c.set((seed, "completions", case)));
         match completions::run_case(&mut lender, seed, case) {
             Ok(number) => *table.entry(number).or_insert(0) += 1,
             Err(what) => {

@@ -1,0 +1,434 @@
+//! Every length from 0 to 72 of what the library may look at several bytes at a time: the value of a policy's line and of a TXT
+//! field, names, and certificates and key infos compared whole. Each is asked as it is right and with another byte, or a few, at
+//! each place. An input is lent on every side (`Place::each`), and the answer must be the same on all of them.
+
+use crate::boundary::{self, Lender, Place};
+use crate::examples::{one_record, plain};
+use crate::inputs::{lengths_of, list, EDGES, LETTERS, UTF8_EDGES};
+use crate::{arguments, Table};
+use independent_rules::rules::{self, HostCall, TlsaAnswer};
+use std::fmt::Debug;
+use std::panic::AssertUnwindSafe;
+use std::time::Instant;
+
+const LONGEST: usize = 72;
+
+struct Check<'a> {
+    lender: &'a mut Lender,
+    only: Option<u64>,
+    inputs: u64,
+    calls: u64,
+    table: Table,
+}
+
+impl Check<'_> {
+    /// Asks the rules once and the library on every side, and compares all that they answer.
+    fn ask<T: Debug + PartialEq>(
+        &mut self,
+        arguments: impl Fn() -> String,
+        ours: impl Fn() -> T,
+        theirs: impl Fn(&mut Lender, Place) -> T,
+        number: impl Fn(&T) -> u64,
+    ) {
+        self.inputs += 1;
+        if self.only.map_or(false, |only| only != self.inputs) {
+            return;
+        }
+        boundary::CURRENT.with(|c| c.set((0, "lengths", self.inputs)));
+        let ours = ours();
+        if self.only.is_some() {
+            println!("{}\n  rules   {ours:?}", arguments());
+        }
+        for place in Place::each(self.inputs) {
+            let theirs = theirs(self.lender, place);
+            if theirs != ours {
+                println!("DIFFERENCE\nlengths case {}, {place:?}\n{}", self.inputs, arguments());
+                println!("  rules   {ours:?}\n  library {theirs:?}");
+                std::process::exit(1);
+            }
+            self.calls += 1;
+        }
+        *self.table.entry(number(&ours)).or_insert(0) += 1;
+    }
+
+    fn policy(&mut self, body: &[u8]) {
+        self.ask(
+            || arguments::policy(body),
+            || rules::read_policy(body),
+            |lender, place| lender.read_policy(body, place),
+            |answer| answer.0,
+        );
+    }
+
+    /// The output is filled with one byte, which changes with the cases, as its size does.
+    fn txt(&mut self, records: &[Vec<u8>], text_length: usize) {
+        let (rdatas, lengths) = (records.concat(), list(&lengths_of(records)));
+        let case = self.inputs as usize;
+        let output = vec![b"a;= 9\0\x80"[case % 7]; text_length + [0, 0, 1, 9][case % 4]];
+        let with_output = |read: &mut dyn FnMut(&mut [u8]) -> rules::TxtAnswer| {
+            let mut output = output.clone();
+            (read(&mut output), output)
+        };
+        self.ask(
+            || arguments::txt(&rdatas, &lengths, &output),
+            || with_output(&mut |output| rules::read_txt(&rdatas, &lengths, output)),
+            |lender, place| with_output(&mut |output| lender.read_txt(&rdatas, &lengths, output, place)),
+            |(answer, _)| answer.0,
+        );
+    }
+
+    /// The text as one record, in one character string or cut in two.
+    fn text(&mut self, text: &[u8]) {
+        let cut = if self.inputs % 2 == 0 { 0 } else { self.inputs as usize % (text.len() + 1) };
+        let (a, b) = text.split_at(cut);
+        self.txt(&[strings(&[a, b])], text.len());
+    }
+
+    fn host(&mut self, call: &HostCall) {
+        self.ask(
+            || arguments::host(call),
+            || rules::judge_host(call),
+            |lender, place| lender.judge_host(call, place),
+            |answer| answer.0,
+        );
+    }
+
+    /// A part of the test; answers of these numbers must be among its own.
+    fn part(&mut self, title: &str, answers: &[u64], part: fn(&mut Check)) {
+        let (begun, inputs) = (Instant::now(), self.inputs);
+        self.table.clear();
+        part(self);
+        if self.only.is_some() {
+            return;
+        }
+        let table: Vec<String> = self.table.iter().map(|(number, count)| format!("{number}: {count}")).collect();
+        let (inputs, seconds) = (self.inputs - inputs, begun.elapsed().as_secs_f64());
+        println!("  {title}: {inputs} inputs in {seconds:.1} s; answers {}", table.join(", "));
+        if let Some(missing) = answers.iter().find(|number| !self.table.contains_key(number)) {
+            println!("FAILED: no input gave {missing}");
+            std::process::exit(1);
+        }
+    }
+}
+
+// ------------------------------------------------------------------------------------------------------------------- pieces
+
+/// Letters and digits, beginning elsewhere for each length.
+fn letters(n: usize) -> Vec<u8> {
+    LETTERS.iter().copied().cycle().skip(n % LETTERS.len()).take(n).collect()
+}
+
+/// A name of this length: one label (too long from 64 on), or labels of this size.
+fn name(n: usize, label: usize) -> Vec<u8> {
+    let mut name = letters(n);
+    for at in (label..n).step_by(label + 1) {
+        if at + 1 < n {
+            name[at] = b'.';
+        }
+    }
+    name
+}
+
+/// The piece stands in the place of what was there, and doesn't pass the end.
+fn replaced(s: &[u8], at: usize, piece: &[u8]) -> Vec<u8> {
+    let n = piece.len().min(s.len() - at);
+    [&s[..at], &piece[..n], &s[at + n..]].concat()
+}
+
+/// The bytes themselves, then with each of the pieces at each place.
+fn with_each(s: &[u8], pieces: &[&[u8]], mut f: impl FnMut(&[u8])) {
+    f(s);
+    for at in 0..s.len() {
+        pieces.iter().for_each(|piece| f(&replaced(s, at, piece)));
+    }
+}
+
+/// The bytes themselves, then with one of them changed at each place, by these bits, and one more or less at each end.
+fn near(s: &[u8], bits: &[u8], mut f: impl FnMut(&[u8])) {
+    f(s);
+    for at in 0..s.len() {
+        bits.iter().for_each(|bits| f(&replaced(s, at, &[s[at] ^ bits])));
+    }
+    f(&[s, b"a"].concat());
+    f(&[b"a", s].concat());
+    if !s.is_empty() {
+        f(&s[1..]);
+        f(&s[..s.len() - 1]);
+    }
+}
+
+fn single(bytes: &[u8]) -> Vec<&[u8]> {
+    bytes.chunks(1).collect()
+}
+
+/// Every byte at each place of up to 24 letters, and every two side by side, at some place of 17.
+fn with_every(mut f: impl FnMut(&[u8])) {
+    let every: Vec<u8> = (0..=255).collect();
+    for n in 0..=24 {
+        with_each(&letters(n), &single(&every), &mut f);
+    }
+    for first in 0..=255u8 {
+        for second in 0..=255 {
+            f(&replaced(&letters(17), (first ^ second) as usize % 16, &[first, second]));
+        }
+    }
+}
+
+/// A record's character strings; an empty one is left out.
+fn strings(parts: &[&[u8]]) -> Vec<u8> {
+    parts.iter().filter(|p| !p.is_empty()).flat_map(|p| [&[p.len() as u8], *p].concat()).collect()
+}
+
+// ----------------------------------------------------------------------------------------------------------------- policies
+
+fn policy_values(c: &mut Check) {
+    let body = |value: &[u8], tail: &[u8]| [b"version:STSv1\nmode:none\nmax_age:1\nx:", value, tail].concat();
+    let others: [&[u8]; 6] = [b"\nmx:b", b"\r\nmx:", b"  ", b" \t", b"\t\t\t\t\t\t\t\t", b"          "];
+    let pieces = [&single(EDGES)[..], UTF8_EDGES, &others].concat();
+    for n in 0..=LONGEST {
+        let value: Vec<u8> = (0..n).map(|i| b' ' + ((7 * i + n) % 95) as u8).collect();
+        for tail in [&b""[..], b"\n", b" \r\nmx:a"] {
+            with_each(&value, &pieces, |value| c.policy(&body(value, tail)));
+        }
+    }
+    with_every(|value| c.policy(&body(value, b"")));
+}
+
+/// The values that are compared or read as numbers, changed and between blanks.
+fn policy_known_values(c: &mut Check) {
+    let lines = |field: &[u8], value: &[u8]| -> Vec<u8> {
+        let others = [&b"version: STSv1\n"[..], b"mode: none\n", b"max_age: 86400\n"];
+        let others: Vec<&[u8]> = others.into_iter().filter(|line| !line.starts_with(field)).collect();
+        [&others.concat(), field, b":", value].concat()
+    };
+    for field in ["version", "mode", "max_age", "mx"].map(str::as_bytes) {
+        for value in ["STSv1", "enforce", "testing", "none", "1", "31557601", "0123456789", "01234567890", "a.example"] {
+            near(value.as_bytes(), &[0x01, 0x10, 0x20, 0x40, 0x80], |value| c.policy(&lines(field, value)));
+            for n in 0..=LONGEST {
+                for blank in [b" ", b"\t"] {
+                    let blanks = blank.repeat(n);
+                    c.policy(&lines(field, &[&blanks, value.as_bytes(), b"\r\n"].concat()));
+                    c.policy(&lines(field, &[value.as_bytes(), &blanks].concat()));
+                    c.policy(&lines(field, &[value.as_bytes(), &blanks, b"x"].concat()));
+                }
+            }
+        }
+    }
+}
+
+fn policy_names(c: &mut Check) {
+    let edges = single(EDGES);
+    let body = |name: &[u8]| [name, b":STSv1\nmode:none\nmax_age:1\nversion:STSv1"].concat();
+    for n in 0..=LONGEST {
+        with_each(&letters(n), &edges, |name| c.policy(&body(name)));
+    }
+    for line in ["version:STSv1\n", "mode:none\n", "max_age:1\n", "mx:a\n"] {
+        let rest = ["version:STSv1\n", "mode:none\n", "max_age:1\n"].concat().replace(line, "");
+        let colon = line.find(':').unwrap_or(0);
+        near(&line.as_bytes()[..colon], &[0x01, 0x02, 0x20, 0x80], |name| {
+            c.policy(&[name, &line.as_bytes()[colon..], rest.as_bytes()].concat());
+        });
+    }
+}
+
+// -------------------------------------------------------------------------------------------------------------- TXT records
+
+fn txt_values(c: &mut Check) {
+    let text = |head: &str, value: &[u8], tail: &str| [b"v=STSv1;", head.as_bytes(), value, tail.as_bytes()].concat();
+    let edges = single(EDGES);
+    for n in 0..=LONGEST {
+        for (head, tail) in [("id=", ""), ("id=", ";"), ("id=", "\t; x=y"), ("id=a;x=", ""), ("id=a;x=", " ;")] {
+            with_each(&letters(n), &edges, |value| c.text(&text(head, value, tail)));
+        }
+    }
+    with_every(|value| c.text(&text("id=", value, "")));
+    with_every(|value| c.text(&text("id=a;x=", value, "")));
+}
+
+fn txt_names(c: &mut Check) {
+    let edges = single(EDGES);
+    for n in 0..=LONGEST {
+        with_each(&letters(n), &edges, |name| c.text(&[b"v=STSv1;", name, b"=a;id=b"].concat()));
+    }
+    near(b"id", &[0x01, 0x20, 0x80], |name| c.text(&[b"v=STSv1; ", name, b"=a"].concat()));
+}
+
+/// The tag changed, cut short, and in up to three character strings, beside other records.
+fn txt_tags(c: &mut Check) {
+    const TAG: &[u8] = b"v=STSv1;";
+    let other = strings(&[b"v=spf1 -all"]);
+    let bits: Vec<u8> = (0..8).map(|bit| 1 << bit).collect();
+    for rest in [&b""[..], b"id=a", b";id=0123456789"] {
+        near(TAG, &bits, |tag| {
+            let text = [tag, rest].concat();
+            for first in 0..=text.len().min(9) {
+                for second in first..=text.len().min(9) {
+                    let record = strings(&[&text[..first], &text[first..second], &text[second..]]);
+                    c.txt(&[record.clone()], text.len());
+                    c.txt(&[other.clone(), record, other.clone()], text.len());
+                }
+            }
+        });
+    }
+    for n in 0..TAG.len() {
+        // The front of the tag; what comes after it in memory, the next record's first bytes, is the rest of it.
+        let front = [&[n as u8], &TAG[..n]].concat();
+        let mut next = TAG[n..].to_vec();
+        next.resize(1 + TAG[n] as usize, b'a');
+        c.txt(&[front.clone(), next.clone()], 80);
+        c.txt(&[front.clone(), next, strings(&[TAG, b"id=a"])], 80);
+        c.txt(&[front], 80);
+    }
+}
+
+// --------------------------------------------------------------------------------------------------------------------- names
+
+/// As next-hop, host, expanded name and pattern.
+fn each_use(c: &mut Check, name: &[u8]) {
+    let alias = HostCall { address: 3, tlsa_answers: 0, expanded: b"mx.example.net".to_vec(), ..plain() };
+    c.host(&HostCall { next_hop: name.to_vec(), ..alias.clone() });
+    c.host(&HostCall { host: name.to_vec(), ..alias.clone() });
+    c.host(&HostCall { expanded: name.to_vec(), ..alias });
+    let star = [&b""[..], b"*."][name.len() % 2];
+    c.policy(&[b"version:STSv1\nmode:testing\nmax_age:1\nmx:", star, name].concat());
+}
+
+fn names(c: &mut Check) {
+    let pieces = [single(b"\0-./9:@AZ[_`{\x7f\x80\xad\xc1\xff"), vec![b"--", b"..", b".-", b"-.", b".a."]].concat();
+    for n in 0..=LONGEST {
+        with_each(&name(n, 63), &pieces, |name| each_use(c, name));
+        with_each(&name(n, n % 9 + 1), &pieces, |name| each_use(c, name));
+        for (before, after) in [("a.", ""), ("", ".b"), ("a9.", ".b-c")] {
+            near(&letters(n), &[], |label| each_use(c, &[before.as_bytes(), label, after.as_bytes()].concat()));
+        }
+    }
+    for n in 250..=256 {
+        each_use(c, &name(n, 63));
+    }
+}
+
+// --------------------------------------------------------------------------------------------------------------- comparisons
+
+/// A host with a live enforce policy of one pattern; the DNS-ID comes after one that is no name.
+fn under_policy(host: &[u8], pattern: &[u8], dns_id: &[u8]) -> HostCall {
+    let dns_ids = [b"-".repeat(host.len() % 9), dns_id.to_vec()];
+    HostCall {
+        host: host.to_vec(),
+        address: 2,
+        tlsa_answers: 0,
+        policy_given: 1,
+        policy: [b"version:STSv1\nmode:enforce\nmax_age:86400\nmx:", pattern].concat(),
+        fetched: plain().clock,
+        dns_ids: dns_ids.concat(),
+        dns_id_lengths: list(&lengths_of(&dns_ids)),
+        ..shown(&[b"leaf"], 0)
+    }
+}
+
+/// The certificates are shown, each with its key info from this place on, and digests of their own.
+fn shown(certificates: &[&[u8]], key_start: usize) -> HostCall {
+    let certificates: Vec<Vec<u8>> = certificates.iter().map(|c| c.to_vec()).collect();
+    let places = certificates.iter().flat_map(|c| [key_start as u64, (c.len() - key_start) as u64]).collect::<Vec<u64>>();
+    HostCall {
+        starttls: 1,
+        handshake: 1,
+        certificates_given: 1,
+        certificates: certificates.concat(),
+        certificate_lengths: list(&lengths_of(&certificates)),
+        key_places: list(&places),
+        digests: (0..192 * certificates.len()).map(|i| (i * 7 % 251) as u8).collect(),
+        paths: list(&vec![1; certificates.len()]),
+        trusted_root: 1,
+        common_name_given: 2,
+        ..plain()
+    }
+}
+
+fn compared_names(c: &mut Check) {
+    let bits = [0x20, 0x01, 0x40, 0x80, 0xa0];
+    for n in 1..=LONGEST {
+        for label in [63, n % 9 + 1] {
+            let host = name(n, label);
+            let below = [b"Mx.", &host[..]].concat();
+            near(&host, &bits, |other| {
+                c.host(&under_policy(&host, &host, other));
+                c.host(&under_policy(&host, other, &host));
+                c.host(&under_policy(&below, &below, &[b"*.", other].concat()));
+                c.host(&under_policy(&below, &[b"*.", other].concat(), &below));
+                c.host(&HostCall { origin: 3, host: host.clone(), next_hop: other.to_vec(), ..plain() });
+                let mut anchored = HostCall { host: host.clone(), ..shown(&[b"leaf", b"root"], 0) };
+                anchored.tlsa[0] = one_record(b"\x02\0\0root");
+                c.host(&HostCall { common_name_given: 1, common_name: other.to_vec(), ..anchored });
+            });
+        }
+    }
+}
+
+/// The record as the second of two; the first one can't be used, and moves it by 0 to 8 bytes.
+fn second_record(record: &[u8], moved: usize) -> [TlsaAnswer; 2] {
+    let both = [[&[1, 0, 0], &letters(moved)[..]].concat(), record.to_vec()];
+    [TlsaAnswer { result: 1, lengths: list(&lengths_of(&both)), records: both.concat() }, Default::default()]
+}
+
+/// Records that are compared whole with a leaf, or with a certificate after it, or with their key info.
+fn compared_certificates(c: &mut Check) {
+    for n in 0..=LONGEST {
+        let moved = n % 9;
+        let whole: Vec<u8> = (0..n).map(|i| (i * 11 + n) as u8).collect();
+        let longer = [&letters(moved), &whole[..]].concat(); // with the key info at its end
+        for (usage, selector) in [(3, 0), (3, 1), (2, 0), (2, 1)] {
+            let (certificate, start) = if selector == 0 { (&whole, 0) } else { (&longer, moved) };
+            let leaf = letters(n % 7 + start);
+            let chain: [&[u8]; 3] = [&leaf, certificate, b"another root"];
+            let mut call = shown(if usage == 3 { &chain[1..2] } else { &chain }, start);
+            (call.dns_ids, call.dns_id_lengths) = (call.host.clone(), list(&[call.host.len() as u64]));
+            near(&whole, &[0x01, 0x20, 0x80, 0xff], |data| {
+                c.host(&HostCall { tlsa: second_record(&[&[usage, selector, 0], data].concat(), moved), ..call.clone() });
+            });
+        }
+    }
+}
+
+fn compared_digests(c: &mut Check) {
+    let mut call = shown(&[b"leaf", b"root"], 2);
+    (call.dns_ids, call.dns_id_lengths) = (call.host.clone(), list(&[call.host.len() as u64]));
+    for (usage, of) in [(3, 0), (2, 192)] {
+        for (selector, kind, start, size) in [(0, 1, 0, 32), (0, 2, 32, 64), (1, 1, 96, 32), (1, 2, 128, 64)] {
+            let digest = call.digests[of + start..of + start + size].to_vec();
+            near(&digest, &[0x01, 0x20, 0x80, 0xff], |data| {
+                for moved in 0..9 {
+                    c.host(&HostCall { tlsa: second_record(&[&[usage, selector, kind], data].concat(), moved), ..call.clone() });
+                }
+            });
+        }
+    }
+}
+
+/// All parts, or the one input alone, printed; the number of the library's answers that were compared.
+pub fn run(lender: &mut Lender, only: Option<u64>) -> u64 {
+    let begun = Instant::now();
+    let mut c = Check { lender, only, inputs: 0, calls: 0, table: Table::new() };
+    if only.is_none() {
+        println!("lengths 0 to {LONGEST}:");
+    }
+    let all = std::panic::catch_unwind(AssertUnwindSafe(|| {
+        c.part("policy values", &[7, 51], policy_values);
+        c.part("policy values that are known", &[7, 51, 52], policy_known_values);
+        c.part("policy names", &[7, 51, 52], policy_names);
+        c.part("TXT values", &[6, 42], txt_values);
+        c.part("TXT names", &[6, 42], txt_names);
+        c.part("TXT tags", &[6, 40, 42], txt_tags);
+        c.part("names", &[7, 13, 51, 60, 61], names);
+        c.part("names compared", &[3, 4, 23, 26, 27, 51, 61], compared_names);
+        c.part("certificates compared", &[3, 26], compared_certificates);
+        c.part("digests compared", &[3, 26], compared_digests);
+    }));
+    if all.is_err() {
+        println!("FAILED: lengths case {}", c.inputs);
+        std::process::exit(1);
+    }
+    if only.is_none() {
+        println!("  {} inputs, {} cases in {:.1} s", c.inputs, c.calls, begun.elapsed().as_secs_f64());
+    }
+    c.calls
+}
