@@ -121,11 +121,11 @@ static size_t put_record(struct text item, struct bytes *to, const struct call *
         uint8_t letter = *item.at;
         if (letter >= '0' && letter <= '9')
             put_form(to, call, letter - '0', (head[1] & 1) != other, head[2]);
-        else if (letter == '!')
-            to->at[to->length - 1] ^= 1; /* three bytes stand there */
+        else if (letter == '!' && to->length > before)
+            to->at[to->length - 1] ^= 1;
         else if (letter == '-')
             to->length -= to->length > before;
-        else if (letter != '^')
+        else if (letter != '^' && letter != '!')
             put(to, letter);
         other = letter == '^';
     }
