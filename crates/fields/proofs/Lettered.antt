@@ -1,21 +1,13 @@
 -- Eight bytes tested as one word: the marks of those that are neither letter nor digit. Assumes nothing.
-use Prim.Native.Nat.{ℕ, _+_, _-_, _<_, _≤_}
-use mathlib.Core.Path.{_≡_, refl}
-use mathlib.Core.Bool.{true}
-use mathlib.Core.List.{List}
+use Prim.Native.Nat.{ℕ, _<_}
+use mathlib.Core.Path.{refl}
 use lib.Bits.{or-lt}
 use lib.Dec.{lit<}
-use lib.ListN.{length, take, drop}
-use Rattle.lists.specs.Bytes.{isBytes}
-use Rattle.lists.specs.Words.{numberOf, eightAt, firstEight, marks}
-use Rattle.lists.proofs.Lanes.{Lane, onWord, onByte, below, isSmall, stays, isMarking, marking, low-below}
+use Rattle.lists.proofs.Lanes.{Lane, Marking, onWord, onByte, below, isSmall, stays, isMarking, marking, low, low-below}
 use Rattle.lists.proofs.Lanes.Lane.{given, byte, plus, and, or, xor}
 use Rattle.fields.specs.Name.{letterOrDigit}
 
 -- what `unlettered_at` does
-abbrev low : Lane
-low = and given (byte 127)
-
 abbrev small : Lane
 small = or low (byte 32)
 
@@ -28,7 +20,7 @@ digits = xor (plus low (byte 80)) (plus low (byte 70))
 abbrev unlettering : Lane
 unlettering = and (or given (xor (or letters digits) (byte 128))) (byte 128)
 
-pub unlettered : (s : List ℕ) (i x : ℕ) → i + 8 ≤ length s → x ≡ numberOf (firstEight (take (i + 8 - i) (drop i s))) → isBytes (firstEight (take (i + 8 - i) (drop i s))) ≡ true → onWord unlettering x ≡ marks letterOrDigit (eightAt s i)
+pub unlettered : Marking unlettering letterOrDigit
 unfolding onByte below isSmall stays isMarking letterOrDigit
 unlettered = marking unlettering letterOrDigit refl
 

@@ -183,13 +183,19 @@ marks-are e p h l bytes eight =
     let marked = below 256 (λ (b : ℕ). eqb (onByte e b) (cond (p b) 0 128)) in
     on-word l bytes eight e (and-left (stays e) marked h) ∙ lanes-marks (onByte e) p (and-right (stays e) marked h) l bytes
 
--- x is what `first_eight` gave of the eight bytes from i on
-pub marking : (e : Lane) (p : ℕ → Bool) → isMarking e p ≡ true → (s : List ℕ) (i x : ℕ) → i + 8 ≤ length s → x ≡ numberOf (firstEight (take (i + 8 - i) (drop i s))) → isBytes (firstEight (take (i + 8 - i) (drop i s))) ≡ true → onWord e x ≡ marks p (eightAt s i)
+-- what a function that marks has to show: x is what `first_eight` gave of the eight bytes from i on
+abbrev pub Marking : Lane → (ℕ → Bool) → Type 0
+Marking e p = (s : List ℕ) (i x : ℕ) → i + 8 ≤ length s → x ≡ numberOf (firstEight (take (i + 8 - i) (drop i s))) → isBytes (firstEight (take (i + 8 - i) (drop i s))) ≡ true → onWord e x ≡ marks p (eightAt s i)
+
+pub marking : (e : Lane) (p : ℕ → Bool) → isMarking e p ≡ true → Marking e p
 marking e p h s i x fits is bytes =
     let part = eight-part s i fits in
     let k : onWord e x ≡ onWord e (numberOf (eightAt s i)) = rw (is, part) refl in
     k ∙ marks-are e p h (eightAt s i) (rw part at bytes) (part-length s i 8 fits)
 
--- without the high bit of each byte a word is small, so that a sum with another such word has room
-pub low-below : (x : ℕ) → bitAnd x 9187201950435737471 < 9223372036854775808
+-- a word without the high bit of each byte is small, so that a sum with another such word has room
+abbrev pub low : Lane
+low = and given (byte 127)
+
+pub low-below : (x : ℕ) → onWord low x < 9223372036854775808
 low-below x = omega (arith, and-le-r x 9187201950435737471)

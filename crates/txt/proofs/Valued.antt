@@ -1,21 +1,13 @@
 -- Eight bytes tested as one word: the marks of those that may not stand in a value. Assumes nothing.
-use Prim.Native.Nat.{ℕ, _+_, _-_, _<_, _≤_}
-use mathlib.Core.Path.{_≡_, refl}
-use mathlib.Core.Bool.{true}
-use mathlib.Core.List.{List}
+use Prim.Native.Nat.{ℕ, _<_}
+use mathlib.Core.Path.{refl}
 use lib.Bits.{xor-lt}
 use lib.Dec.{lit<}
-use lib.ListN.{length, take, drop}
-use Rattle.lists.specs.Bytes.{isBytes}
-use Rattle.lists.specs.Words.{numberOf, eightAt, firstEight, marks}
-use Rattle.lists.proofs.Lanes.{Lane, onWord, onByte, below, isSmall, stays, isMarking, marking, low-below}
+use Rattle.lists.proofs.Lanes.{Lane, Marking, onWord, onByte, below, isSmall, stays, isMarking, marking, low, low-below}
 use Rattle.lists.proofs.Lanes.Lane.{given, byte, plus, and, or, xor}
 use Rattle.txt.specs.Paper.{valueByte}
 
 -- what `unvalued_at` does
-abbrev low : Lane
-low = and given (byte 127)
-
 abbrev equals : Lane
 equals = xor low (byte 61)
 
@@ -28,7 +20,7 @@ good = and (and (xor (plus low (byte 95)) (plus low (byte 1))) (plus equals (byt
 abbrev unvaluing : Lane
 unvaluing = and (or given (xor good (byte 128))) (byte 128)
 
-pub unvalued : (s : List ℕ) (i x : ℕ) → i + 8 ≤ length s → x ≡ numberOf (firstEight (take (i + 8 - i) (drop i s))) → isBytes (firstEight (take (i + 8 - i) (drop i s))) ≡ true → onWord unvaluing x ≡ marks valueByte (eightAt s i)
+pub unvalued : Marking unvaluing valueByte
 unfolding onByte below isSmall stays isMarking valueByte
 unvalued = marking unvaluing valueByte refl
 
