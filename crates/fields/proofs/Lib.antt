@@ -1,5 +1,5 @@
 pub mod Letter
-pub mod Lettered
+pub mod LetterMarks
 pub mod Name
 pub mod Blank
 mod Worked

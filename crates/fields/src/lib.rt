@@ -69,7 +69,7 @@ pub fn is_letter_or_digit(b: u8) -> bool
 
 // Of the eight bytes of s from i on, the high bit of each that is neither letter nor digit. What is done to the word is done to each of its bytes: without its high bit
 // a byte is a letter where, made small, it is a to z, and a digit where it is 0 to 9; a sum passes 127 from the first byte of a range on, another from the first one after it.
-fn unlettered_at(s: &[u8], i: usize) -> u64
+fn mark_non_letters(s: &[u8], i: usize) -> u64
     requires { ⌜ i + 8 ≤ length (now s) ⌝ }
     ensures { λ r. ⌜ r ≡ marks letterOrDigit (eightAt (now (s .entry)) i) ⌝ }
 {
@@ -110,7 +110,7 @@ pub fn letters_end(s: &[u8], from: usize) -> usize
     }
     let mut i = from;
     while 8 <= s.len() - i {
-        let m = unlettered_at(s, i);
+        let m = mark_non_letters(s, i);
         if m != 0 {
             let before = lists::bytes_below(m);
             return i + before;

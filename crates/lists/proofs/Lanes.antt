@@ -30,16 +30,16 @@ below-at f (suc n) k t h =
     ⊎-elim (λ (e : k ≡ n). rw e (and-left (f n) (below n f) t)) (λ (l : k < n). below-at f n k (and-right (f n) (below n f) t) l) (eq-or-lt-of-le m)
 
 -- what the code computes of a word: the word itself, one byte in all eight places, or an operation on two of these
-pub data Lane : Type 0 where
-  given : Lane
-  byte : ℕ → Lane
-  plus : Lane → Lane → Lane
-  and : Lane → Lane → Lane
-  or : Lane → Lane → Lane
-  xor : Lane → Lane → Lane
+pub data Expression : Type 0 where
+  given : Expression
+  byte : ℕ → Expression
+  plus : Expression → Expression → Expression
+  and : Expression → Expression → Expression
+  or : Expression → Expression → Expression
+  xor : Expression → Expression → Expression
 
--- done to a word
-abbrev pub onWord : Lane → ℕ → ℕ
+-- over the word x; 72340172838076673 has a 1 in each byte
+abbrev pub onWord : Expression → ℕ → ℕ
 onWord given x = x
 onWord (byte n) x = n * 72340172838076673
 onWord (plus e f) x = onWord e x + onWord f x
@@ -47,8 +47,8 @@ onWord (and e f) x = bitAnd (onWord e x) (onWord f x)
 onWord (or e f) x = bitOr (onWord e x) (onWord f x)
 onWord (xor e f) x = bitXor (onWord e x) (onWord f x)
 
--- done to one byte
-unfoldable pub onByte : Lane → ℕ → ℕ
+-- over one byte b, in the same steps
+unfoldable pub onByte : Expression → ℕ → ℕ
 onByte given b = b
 onByte (byte n) b = n
 onByte (plus e f) b = onByte e b + onByte f b
@@ -56,18 +56,18 @@ onByte (and e f) b = bitAnd (onByte e b) (onByte f b)
 onByte (or e f) b = bitOr (onByte e b) (onByte f b)
 onByte (xor e f) b = bitXor (onByte e b) (onByte f b)
 
--- of each byte it makes a byte again
-unfoldable pub isSmall : Lane → Bool
-isSmall e = below 256 (λ (b : ℕ). ltb (onByte e b) 256)
+-- it makes a byte of each byte
+unfoldable pub makesBytes : Expression → Bool
+makesBytes e = below 256 (λ (b : ℕ). ltb (onByte e b) 256)
 
--- and so does each operation in it: no byte overflows into the next
-unfoldable pub stays : Lane → Bool
-stays given = true
-stays (byte n) = ltb n 256
-stays (plus e f) = stays e && stays f && isSmall (plus e f)
-stays (and e f) = stays e && stays f && isSmall (and e f)
-stays (or e f) = stays e && stays f && isSmall (or e f)
-stays (xor e f) = stays e && stays f && isSmall (xor e f)
+-- so does each operation in it: no byte overflows into the next
+unfoldable pub keepsBytes : Expression → Bool
+keepsBytes given = true
+keepsBytes (byte n) = ltb n 256
+keepsBytes (plus e f) = keepsBytes e && keepsBytes f && makesBytes (plus e f)
+keepsBytes (and e f) = keepsBytes e && keepsBytes f && makesBytes (and e f)
+keepsBytes (or e f) = keepsBytes e && keepsBytes f && makesBytes (or e f)
+keepsBytes (xor e f) = keepsBytes e && keepsBytes f && makesBytes (xor e f)
 
 -- the number whose bytes are f of the list's
 unfoldable lanes : (ℕ → ℕ) → List ℕ → ℕ
@@ -119,18 +119,18 @@ module _ (op : ℕ → ℕ → ℕ) (none : op 0 0 ≡ 0) (block : (k a b r s : 
       let i : op (lanes f s) (lanes g s) ≡ lanes (λ (b : ℕ). op (f b) (g b)) s = lanes-bits f g hf hg s (rest-bytes b s h) in
       ap₂ op x y ∙ (z ∙ omega arith)
 
-small-at : (e : Lane) → isSmall e ≡ true → (b : ℕ) → b < 256 → onByte e b < 256
-unfolding isSmall
-small-at e h b l = ltb-true (onByte e b) 256 (below-at (λ (x : ℕ). ltb (onByte e x) 256) 256 b h l)
+makes-at : (e : Expression) → makesBytes e ≡ true → (b : ℕ) → b < 256 → onByte e b < 256
+unfolding makesBytes
+makes-at e h b l = ltb-true (onByte e b) 256 (below-at (λ (x : ℕ). ltb (onByte e x) 256) 256 b h l)
 
-stays-at : (e : Lane) → stays e ≡ true → (b : ℕ) → b < 256 → onByte e b < 256
-unfolding stays onByte
-stays-at given h b l = l
-stays-at (byte n) h b l = ltb-true n 256 h
-stays-at (plus e f) h b l = small-at (plus e f) (and-right (stays e && stays f) (isSmall (plus e f)) h) b l
-stays-at (and e f) h b l = small-at (and e f) (and-right (stays e && stays f) (isSmall (and e f)) h) b l
-stays-at (or e f) h b l = small-at (or e f) (and-right (stays e && stays f) (isSmall (or e f)) h) b l
-stays-at (xor e f) h b l = small-at (xor e f) (and-right (stays e && stays f) (isSmall (xor e f)) h) b l
+keeps-at : (e : Expression) → keepsBytes e ≡ true → (b : ℕ) → b < 256 → onByte e b < 256
+unfolding keepsBytes onByte
+keeps-at given h b l = l
+keeps-at (byte n) h b l = ltb-true n 256 h
+keeps-at (plus e f) h b l = makes-at (plus e f) (and-right (keepsBytes e && keepsBytes f) (makesBytes (plus e f)) h) b l
+keeps-at (and e f) h b l = makes-at (and e f) (and-right (keepsBytes e && keepsBytes f) (makesBytes (and e f)) h) b l
+keeps-at (or e f) h b l = makes-at (or e f) (and-right (keepsBytes e && keepsBytes f) (makesBytes (or e f)) h) b l
+keeps-at (xor e f) h b l = makes-at (xor e f) (and-right (keepsBytes e && keepsBytes f) (makesBytes (xor e f)) h) b l
 
 -- the first and the second of three facts
 first : (a b c : Bool) → (a && b && c) ≡ true → a ≡ true
@@ -140,29 +140,29 @@ second : (a b c : Bool) → (a && b && c) ≡ true → b ≡ true
 second a b c h = and-right a b (and-left (a && b) c h)
 
 module _ (l : List ℕ) (bytes : isBytes l ≡ true) (eight : length l ≡ 8) where
-  on-bits : (op : ℕ → ℕ → ℕ) → op 0 0 ≡ 0 → ((k a b r s : ℕ) → r < 2 ^ k → s < 2 ^ k → op (a * 2 ^ k + r) (b * 2 ^ k + s) ≡ op a b * 2 ^ k + op r s) → (e f : Lane) → stays e ≡ true → stays f ≡ true → onWord e (numberOf l) ≡ lanes (onByte e) l → onWord f (numberOf l) ≡ lanes (onByte f) l → op (onWord e (numberOf l)) (onWord f (numberOf l)) ≡ lanes (λ (b : ℕ). op (onByte e b) (onByte f b)) l
-  on-bits op none block e f he hf x y = ap₂ op x y ∙ lanes-bits op none block (onByte e) (onByte f) (stays-at e he) (stays-at f hf) l bytes
+  on-bits : (op : ℕ → ℕ → ℕ) → op 0 0 ≡ 0 → ((k a b r s : ℕ) → r < 2 ^ k → s < 2 ^ k → op (a * 2 ^ k + r) (b * 2 ^ k + s) ≡ op a b * 2 ^ k + op r s) → (e f : Expression) → keepsBytes e ≡ true → keepsBytes f ≡ true → onWord e (numberOf l) ≡ lanes (onByte e) l → onWord f (numberOf l) ≡ lanes (onByte f) l → op (onWord e (numberOf l)) (onWord f (numberOf l)) ≡ lanes (λ (b : ℕ). op (onByte e b) (onByte f b)) l
+  on-bits op none block e f he hf x y = ap₂ op x y ∙ lanes-bits op none block (onByte e) (onByte f) (keeps-at e he) (keeps-at f hf) l bytes
 
   -- what is done to a word is done to each of its bytes
-  on-word : (e : Lane) → stays e ≡ true → onWord e (numberOf l) ≡ lanes (onByte e) l
-  unfolding stays onByte
+  on-word : (e : Expression) → keepsBytes e ≡ true → onWord e (numberOf l) ≡ lanes (onByte e) l
+  unfolding keepsBytes onByte
   on-word given h = lanes-number l
   on-word (byte n) h = lanes-same n l eight
   on-word (plus e f) h =
-      let he = first (stays e) (stays f) (isSmall (plus e f)) h in
-      let hf = second (stays e) (stays f) (isSmall (plus e f)) h in
+      let he = first (keepsBytes e) (keepsBytes f) (makesBytes (plus e f)) h in
+      let hf = second (keepsBytes e) (keepsBytes f) (makesBytes (plus e f)) h in
       ap₂ _+_ (on-word e he) (on-word f hf) ∙ lanes-plus (onByte e) (onByte f) l
   on-word (and e f) h =
-      let he = first (stays e) (stays f) (isSmall (and e f)) h in
-      let hf = second (stays e) (stays f) (isSmall (and e f)) h in
+      let he = first (keepsBytes e) (keepsBytes f) (makesBytes (and e f)) h in
+      let hf = second (keepsBytes e) (keepsBytes f) (makesBytes (and e f)) h in
       on-bits bitAnd refl and-block e f he hf (on-word e he) (on-word f hf)
   on-word (or e f) h =
-      let he = first (stays e) (stays f) (isSmall (or e f)) h in
-      let hf = second (stays e) (stays f) (isSmall (or e f)) h in
+      let he = first (keepsBytes e) (keepsBytes f) (makesBytes (or e f)) h in
+      let hf = second (keepsBytes e) (keepsBytes f) (makesBytes (or e f)) h in
       on-bits bitOr refl or-block e f he hf (on-word e he) (on-word f hf)
   on-word (xor e f) h =
-      let he = first (stays e) (stays f) (isSmall (xor e f)) h in
-      let hf = second (stays e) (stays f) (isSmall (xor e f)) h in
+      let he = first (keepsBytes e) (keepsBytes f) (makesBytes (xor e f)) h in
+      let hf = second (keepsBytes e) (keepsBytes f) (makesBytes (xor e f)) h in
       on-bits bitXor refl xor-block e f he hf (on-word e he) (on-word f hf)
 
 lanes-marks : (f : ℕ → ℕ) (p : ℕ → Bool) → below 256 (λ (b : ℕ). eqb (f b) (cond (p b) 0 128)) ≡ true → (l : List ℕ) → isBytes l ≡ true → lanes f l ≡ marks p l
@@ -174,27 +174,27 @@ lanes-marks f p t (b ∷ s) h =
     rw (e, i) refl
 
 -- it marks the bytes that do not pass a test, where it makes 128 of each of them and 0 of each other: both are for antt to compute, over all 256 bytes
-unfoldable pub isMarking : Lane → (ℕ → Bool) → Bool
-isMarking e p = stays e && below 256 (λ (b : ℕ). eqb (onByte e b) (cond (p b) 0 128))
+unfoldable pub isMarking : Expression → (ℕ → Bool) → Bool
+isMarking e p = keepsBytes e && below 256 (λ (b : ℕ). eqb (onByte e b) (cond (p b) 0 128))
 
-marks-are : (e : Lane) (p : ℕ → Bool) → isMarking e p ≡ true → (l : List ℕ) → isBytes l ≡ true → length l ≡ 8 → onWord e (numberOf l) ≡ marks p l
+marks-are : (e : Expression) (p : ℕ → Bool) → isMarking e p ≡ true → (l : List ℕ) → isBytes l ≡ true → length l ≡ 8 → onWord e (numberOf l) ≡ marks p l
 unfolding isMarking
 marks-are e p h l bytes eight =
     let marked = below 256 (λ (b : ℕ). eqb (onByte e b) (cond (p b) 0 128)) in
-    on-word l bytes eight e (and-left (stays e) marked h) ∙ lanes-marks (onByte e) p (and-right (stays e) marked h) l bytes
+    on-word l bytes eight e (and-left (keepsBytes e) marked h) ∙ lanes-marks (onByte e) p (and-right (keepsBytes e) marked h) l bytes
 
 -- what a function that marks has to show: x is what `first_eight` gave of the eight bytes from i on
-abbrev pub Marking : Lane → (ℕ → Bool) → Type 0
+abbrev pub Marking : Expression → (ℕ → Bool) → Type 0
 Marking e p = (s : List ℕ) (i x : ℕ) → i + 8 ≤ length s → x ≡ numberOf (firstEight (take (i + 8 - i) (drop i s))) → isBytes (firstEight (take (i + 8 - i) (drop i s))) ≡ true → onWord e x ≡ marks p (eightAt s i)
 
-pub marking : (e : Lane) (p : ℕ → Bool) → isMarking e p ≡ true → Marking e p
+pub marking : (e : Expression) (p : ℕ → Bool) → isMarking e p ≡ true → Marking e p
 marking e p h s i x fits is bytes =
     let part = eight-part s i fits in
     let k : onWord e x ≡ onWord e (numberOf (eightAt s i)) = rw (is, part) refl in
     k ∙ marks-are e p h (eightAt s i) (rw part at bytes) (part-length s i 8 fits)
 
 -- a word without the high bit of each byte is small, so that a sum with another such word has room
-abbrev pub low : Lane
+abbrev pub low : Expression
 low = and given (byte 127)
 
 pub low-below : (x : ℕ) → onWord low x < 9223372036854775808

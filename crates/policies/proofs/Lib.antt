@@ -1,5 +1,5 @@
 pub mod Texts
-pub mod Printed
+pub mod PrintableMarks
 pub mod Values
 pub mod Takes
 pub mod Body

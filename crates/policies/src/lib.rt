@@ -388,7 +388,7 @@ fn printable_from(s: &[u8], from: usize) -> usize
 
 // Of the eight bytes of s from i on, the high bit of each that is no space and no byte 21 to 7E. What is done to the word is done to each of its bytes: without its
 // high bit a byte is such a one where the first sum passes 127, as it does from 20 on, and the second does not, as it does from 7F on.
-fn unprintable_at(s: &[u8], i: usize) -> u64
+fn mark_unprintable(s: &[u8], i: usize) -> u64
     requires { ⌜ i + 8 ≤ length (now s) ⌝ }
     ensures { λ r. ⌜ r ≡ marks printable (eightAt (now (s .entry)) i) ⌝ }
 {
@@ -407,7 +407,7 @@ fn printable_end(s: &[u8], from: usize) -> usize
 {
     let mut i = from;
     while 8 <= s.len() - i {
-        let m = unprintable_at(s, i);
+        let m = mark_unprintable(s, i);
         if m != 0 {
             let before = lists::bytes_below(m);
             return i + before;

@@ -1,7 +1,7 @@
 pub mod Strings
 pub mod Writing
 pub mod Candidates
-pub mod Valued
+pub mod ValueMarks
 pub mod Forms
 pub mod Answers
 pub mod Reading

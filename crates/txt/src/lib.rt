@@ -262,7 +262,7 @@ fn value_from(t: &[u8], from: usize) -> usize
 
 // Of the eight bytes of t from i on, the high bit of each that may not stand in a value. What is done to the word is done to each of its bytes: without its high bit a
 // byte may stand there where the first sum passes 127, as it does from 21 on, the second does not, as it does from 7F on, and it differs from `=` and from `;`.
-fn unvalued_at(t: &[u8], i: usize) -> u64
+fn mark_non_values(t: &[u8], i: usize) -> u64
     requires { ⌜ i + 8 ≤ length (now t) ⌝ }
     ensures { λ r. ⌜ r ≡ marks valueByte (eightAt (now (t .entry)) i) ⌝ }
 {
@@ -284,7 +284,7 @@ fn value_end(t: &[u8], e: usize) -> usize
 {
     let mut i = e + 1;
     while 8 <= t.len() - i {
-        let m = unvalued_at(t, i);
+        let m = mark_non_values(t, i);
         if m != 0 {
             let before = lists::bytes_below(m);
             return i + before;

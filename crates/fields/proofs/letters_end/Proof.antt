@@ -23,8 +23,8 @@ loop-holds c = search marks-laws
 sub-loop : tie.Need-sub-loop Inv-loop μ-loop
 sub-loop c = search marks-laws
 
-unlettered-at-requires : tie.Need-unlettered-at-requires Inv-loop μ-loop
-unlettered-at-requires c κs = search marks-laws
+mark-non-letters-requires : tie.Need-mark-non-letters-requires Inv-loop μ-loop
+mark-non-letters-requires c κs = search marks-laws
 
 bytes-below-requires : tie.Need-bytes-below-requires Inv-loop μ-loop
 bytes-below-requires c κs = search marks-laws
@@ -59,7 +59,7 @@ letters-end-spec =
     returns
     loop-holds
     sub-loop
-    unlettered-at-requires
+    mark-non-letters-requires
     bytes-below-requires
     add-result
     returns-2

@@ -20,8 +20,8 @@ loop-holds c = search marks-laws
 sub-loop : tie.Need-sub-loop Inv-loop μ-loop
 sub-loop c = search marks-laws
 
-unprintable-at-requires : tie.Need-unprintable-at-requires Inv-loop μ-loop
-unprintable-at-requires c κs = search marks-laws
+mark-unprintable-requires : tie.Need-mark-unprintable-requires Inv-loop μ-loop
+mark-unprintable-requires c κs = search marks-laws
 
 bytes-below-requires : tie.Need-bytes-below-requires Inv-loop μ-loop
 bytes-below-requires c κs = search marks-laws
@@ -55,7 +55,7 @@ printable-end-spec =
     μ-loop
     loop-holds
     sub-loop
-    unprintable-at-requires
+    mark-unprintable-requires
     bytes-below-requires
     add-result
     returns

@@ -23,8 +23,8 @@ loop-holds c = search marks-laws
 sub-loop : tie.Need-sub-loop Inv-loop μ-loop
 sub-loop c = search marks-laws
 
-unvalued-at-requires : tie.Need-unvalued-at-requires Inv-loop μ-loop
-unvalued-at-requires c κs = search marks-laws
+mark-non-values-requires : tie.Need-mark-non-values-requires Inv-loop μ-loop
+mark-non-values-requires c κs = search marks-laws
 
 bytes-below-requires : tie.Need-bytes-below-requires Inv-loop μ-loop
 bytes-below-requires c κs = search marks-laws
@@ -59,7 +59,7 @@ value-end-spec =
     add-i
     loop-holds
     sub-loop
-    unvalued-at-requires
+    mark-non-values-requires
     bytes-below-requires
     add-result
     returns

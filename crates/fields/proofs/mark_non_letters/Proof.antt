@@ -1,10 +1,10 @@
--- `fields::unlettered_at` meets its contract. Assumes nothing.
+-- `fields::mark_non_letters` meets its contract. Assumes nothing.
 use native.Mathlib.Omega.{arith}
 use borrow.Author.Needs.{needs}
 use Rattle.lists.proofs.Lanes.{low-below}
-use Rattle.fields.proofs.Lettered.{small-below, unlettered}
-use Rattle.fields.proofs.unlettered_at.Statement.{statement}
-use Rattle.fields.proofs.unlettered_at.Tie as tie
+use Rattle.fields.proofs.LetterMarks.{small-below, non-letters-marked}
+use Rattle.fields.proofs.mark_non_letters.Statement.{statement}
+use Rattle.fields.proofs.mark_non_letters.Tie as tie
 
 add-first-eight : tie.Need-add-first-eight
 add-first-eight c = search needs
@@ -34,10 +34,10 @@ add-past-9 : tie.Need-add-past-9
 add-past-9 c = record { fits = omega (arith, low-below (c .first-eight .result)) }
 
 returns : tie.Need-returns
-returns c = search (unlettered, needs)
+returns c = search (non-letters-marked, needs)
 
-pub unlettered-at-spec : {M : Type 1} → statement M
-unlettered-at-spec =
+pub mark-non-letters-spec : {M : Type 1} → statement M
+mark-non-letters-spec =
     tie.close
     (tie.spec
     add-first-eight

@@ -1,10 +1,10 @@
--- `policies::unprintable_at` meets its contract. Assumes nothing.
+-- `policies::mark_unprintable` meets its contract. Assumes nothing.
 use native.Mathlib.Omega.{arith}
 use borrow.Author.Needs.{needs}
 use Rattle.lists.proofs.Lanes.{low-below}
-use Rattle.policies.proofs.Printed.{unprinted}
-use Rattle.policies.proofs.unprintable_at.Statement.{statement}
-use Rattle.policies.proofs.unprintable_at.Tie as tie
+use Rattle.policies.proofs.PrintableMarks.{unprintable-marked}
+use Rattle.policies.proofs.mark_unprintable.Statement.{statement}
+use Rattle.policies.proofs.mark_unprintable.Tie as tie
 
 add-first-eight : tie.Need-add-first-eight
 add-first-eight c = search needs
@@ -28,10 +28,10 @@ add-past-tilde : tie.Need-add-past-tilde
 add-past-tilde c = record { fits = omega (arith, low-below (c .first-eight .result)) }
 
 returns : tie.Need-returns
-returns c = search (unprinted, needs)
+returns c = search (unprintable-marked, needs)
 
-pub unprintable-at-spec : {M : Type 1} → statement M
-unprintable-at-spec =
+pub mark-unprintable-spec : {M : Type 1} → statement M
+mark-unprintable-spec =
     tie.close
     (tie.spec
     add-first-eight

@@ -1,10 +1,11 @@
--- `txt::unvalued_at` meets its contract. Assumes nothing.
+-- `txt::mark_non_values` meets its contract. Assumes nothing.
 use native.Mathlib.Omega.{arith}
 use borrow.Author.Needs.{needs}
+use lib.Dec.{lit<}
 use Rattle.lists.proofs.Lanes.{low-below}
-use Rattle.txt.proofs.Valued.{equals-below, semicolon-below, unvalued}
-use Rattle.txt.proofs.unvalued_at.Statement.{statement}
-use Rattle.txt.proofs.unvalued_at.Tie as tie
+use Rattle.txt.proofs.ValueMarks.{differs-below, non-values-marked}
+use Rattle.txt.proofs.mark_non_values.Statement.{statement}
+use Rattle.txt.proofs.mark_non_values.Tie as tie
 
 add-first-eight : tie.Need-add-first-eight
 add-first-eight c = search needs
@@ -28,16 +29,16 @@ add-past-tilde : tie.Need-add-past-tilde
 add-past-tilde c = record { fits = omega (arith, low-below (c .first-eight .result)) }
 
 add-no-equals : tie.Need-add-no-equals
-add-no-equals c = record { fits = omega (arith, equals-below (c .first-eight .result)) }
+add-no-equals c = record { fits = omega (arith, differs-below (c .first-eight .result) 61 (lit< tt)) }
 
 add-no-semicolon : tie.Need-add-no-semicolon
-add-no-semicolon c = record { fits = omega (arith, semicolon-below (c .first-eight .result)) }
+add-no-semicolon c = record { fits = omega (arith, differs-below (c .first-eight .result) 59 (lit< tt)) }
 
 returns : tie.Need-returns
-returns c = search (unvalued, needs)
+returns c = search (non-values-marked, needs)
 
-pub unvalued-at-spec : {M : Type 1} → statement M
-unvalued-at-spec =
+pub mark-non-values-spec : {M : Type 1} → statement M
+mark-non-values-spec =
     tie.close
     (tie.spec
     add-first-eight
