@@ -17,6 +17,7 @@ use Rattle.hosts.specs.Tree.{Question, reached, isTlsa}
 use Rattle.hosts.specs.Rules.{needsMtaSts, rules}
 use Rattle.hosts.specs.Arguments.{Arguments, baseOf, presentedIn, factsOf}
 use Rattle.hosts.specs.Call.{hostAnswer}
+use Rattle.hosts.specs.Verdicts.{testsOf, conditions, holding, countOf}
 
 -- the kinds of answer: a refusal, 40 to 67; a verdict, 1 to 5 or 20 to 27
 abbrev pub isRefusal : ℕ → Bool
@@ -170,8 +171,14 @@ pub record Settled (a : Arguments) (r : HostAnswer) : Type 0 where
 abbrev pub Demand3 : Arguments → HostAnswer → Type 0
 Demand3 a r = (T (isRefusal (r .number)) → ⊥) → Settled a r
 
--- the promise of the exported call: its complete result; demand 2, where the arguments say a full set that it accepts; and demand 3
+-- the second reading of document 01: the verdict is that of the one condition that holds, and the count is the paper's
+pub record Exact (b : Base) (f : Full) (r : HostAnswer) : Type 0 where
+  pub verdict : holding (conditions (testsOf b f)) ≡ r .number ∷ []
+  pub count : r .«tlsa_questions» ≡ countOf b f
+
+-- the promise of the exported call: its complete result; where the arguments say a full set that it accepts, the verdict and the count of the second reading and demand 2; and demand 3
 pub record Judged (a : Arguments) (r : HostAnswer) : Type 0 where
   pub is : r ≡ hostAnswer a
+  pub exact : IsFull a → Exact (baseOf a) (fullOf a) r
   pub second : IsFull a → Demand2 (baseOf a) (fullOf a) r
   pub third : Demand3 a r

@@ -1,0 +1,159 @@
+-- Full sets of facts by computation, from the arguments of a call: the answer, the conditions that hold, and the count. One for each verdict, then one for each code. Assumes nothing.
+-- A host of example.com at the clock 605,000; the policy was fetched at 1,000 and is live until 605,800.
+use Prim.Native.Nat.{ℕ}
+use mathlib.Core.Path.{_≡_, refl}
+use mathlib.Core.List.{List, [], _∷_, _++_}
+use lib.ListN.{length, replicate}
+use Rattle.lists.specs.Text.{text}
+use Rattle.numbers.specs.Numbers.{written}
+use Rattle.hosts.specs.declared.HostAnswer.{HostAnswer}
+use Rattle.hosts.specs.Arguments.{Arguments, baseOf}
+use Rattle.hosts.specs.Call.{hostAnswer}
+use Rattle.hosts.specs.Demands.{fullOf}
+use Rattle.hosts.specs.Verdicts.{testsOf, conditions, holding, countOf}
+use Rattle.tweedstork.proofs.Cases.{hostComputed}
+
+-- records: 3 1 1 with the digest of the leaf's key info, and with another; 2 1 1 with that of the issuer's; usage 1
+abbrev matching : List ℕ
+matching = 3 ∷ 1 ∷ 1 ∷ replicate 32 7
+
+abbrev other : List ℕ
+other = 3 ∷ 1 ∷ 1 ∷ replicate 32 8
+
+abbrev issuing : List ℕ
+issuing = 2 ∷ 1 ∷ 1 ∷ replicate 32 9
+
+abbrev usage1 : List ℕ
+usage1 = 1 ∷ 1 ∷ 1 ∷ replicate 32 7
+
+-- a host that a pattern of the policy matches, one that none matches, and the expanded name
+abbrev mail : List ℕ
+mail = text "mail.example.com"
+
+abbrev stray : List ℕ
+stray = text "mail.example.net"
+
+abbrev expanded : List ℕ
+expanded = text "mx.example.org"
+
+abbrev nextHop : List ℕ
+nextHop = text "example.com"
+
+-- what the sets differ in: origin, address result, whether the policy is given (1) or not (2), host, two TLSA answers (the first with one record),
+-- STARTTLS, the handshake, the trusted-root flag and one DNS-ID
+abbrev fullWith : (origin address policy : ℕ) (host : List ℕ) (tlsa1 : ℕ) (record1 : List ℕ) (tlsa2 starttls handshake root : ℕ) (id : List ℕ) → Arguments
+fullWith origin address policy host tlsa1 record1 tlsa2 starttls handshake root id = record {
+  numbers = record {
+    clock = 605000;
+    origin = origin;
+    address = address;
+    «policy_given» = policy;
+    fetched = 1000;
+    «tlsa_answers» = 2;
+    «tlsa1_result» = tlsa1;
+    «tlsa2_result» = tlsa2;
+    starttls = starttls;
+    handshake = handshake;
+    «certificates_given» = 1;
+    «trusted_root» = root;
+    «common_name_given» = 2;
+  };
+  nextHop = nextHop;
+  host = host;
+  expanded = expanded;
+  body = text "version: STSv1\nmode: enforce\nmx: *.example.com\nmax_age: 604800\n";
+  lengths1 = written (length record1 ∷ []);
+  records1 = record1;
+  lengths2 = [];
+  records2 = [];
+  certificates = 1 ∷ 2 ∷ 3 ∷ [];
+  certificateLengths = written (2 ∷ 1 ∷ []);
+  keyPlaces = written (0 ∷ 1 ∷ 0 ∷ 1 ∷ []);
+  digests = replicate 96 0 ++ replicate 32 7 ++ replicate 64 0 ++ replicate 96 0 ++ replicate 32 9 ++ replicate 64 0;
+  paths = written (2 ∷ 1 ∷ []);
+  dnsIds = id;
+  dnsIdLengths = written (length id ∷ []);
+  commonName = [];
+}
+
+-- the answer of a call; the verdicts whose conditions hold, and the count
+pub record Result : Type 0 where
+  pub answer : HostAnswer
+  pub holds : List ℕ
+  pub count : ℕ
+
+abbrev resultOf : Arguments → Result
+resultOf a = record { answer = hostAnswer a; holds = holding (conditions (testsOf (baseOf a) (fullOf a))); count = countOf (baseOf a) (fullOf a) }
+
+-- the verdict n after k answers were read; its condition holds alone
+abbrev alone : ℕ → ℕ → Result
+alone n k = record { answer = record { number = n; «tlsa_questions» = k }; holds = n ∷ []; count = k }
+
+-- 1, 2: nothing is needed, not offered; established. 3, 4, 5: DANE, MTA-STS, both are needed and pass
+-- 20, 21: also under a policy that doesn't list the host. 22: at the second name. 23: also where the first TLSA answer failed
+-- 24, 25: TLS is needed by a record that isn't usable. 26: DANE doesn't match, though MTA-STS passes. 27: DANE matches, and MTA-STS doesn't pass
+pub each-verdict :
+    resultOf (fullWith 1 1 2 mail 3 [] 3 2 1 1 mail)
+    ∷ resultOf (fullWith 1 1 2 mail 3 [] 3 1 1 1 mail)
+    ∷ resultOf (fullWith 1 1 2 mail 1 matching 3 1 1 1 stray)
+    ∷ resultOf (fullWith 1 1 1 mail 3 [] 3 1 1 1 mail)
+    ∷ resultOf (fullWith 1 1 1 mail 1 matching 3 1 1 1 mail)
+    ∷ resultOf (fullWith 1 6 1 stray 4 [] 4 1 1 1 mail)
+    ∷ resultOf (fullWith 1 7 1 stray 4 [] 4 1 1 1 mail)
+    ∷ resultOf (fullWith 1 3 1 mail 2 [] 4 1 1 1 mail)
+    ∷ resultOf (fullWith 1 1 1 stray 4 [] 4 1 1 1 mail)
+    ∷ resultOf (fullWith 1 1 2 mail 1 usage1 3 2 1 1 mail)
+    ∷ resultOf (fullWith 1 1 2 mail 1 usage1 3 1 2 1 mail)
+    ∷ resultOf (fullWith 1 1 1 mail 1 other 3 1 1 1 mail)
+    ∷ resultOf (fullWith 1 1 1 mail 1 matching 3 1 1 1 stray)
+    ∷ []
+    ≡ alone 1 1
+    ∷ alone 2 1
+    ∷ alone 3 1
+    ∷ alone 4 1
+    ∷ alone 5 1
+    ∷ alone 20 0
+    ∷ alone 21 0
+    ∷ alone 22 2
+    ∷ alone 23 0
+    ∷ alone 24 1
+    ∷ alone 25 1
+    ∷ alone 26 1
+    ∷ alone 27 1
+    ∷ []
+unfolding hostComputed fullOf testsOf countOf
+each-verdict = refl
+
+-- the codes. Address results beside a first TLSA answer with a record that matches: 1 and 4 read it at the host, 2 and 5 read none (nothing is needed), 3 reads it at the expanded name
+-- TLSA results 1 to 4: the set is taken; next name; next name; 22
+-- origins beside a record 2 1 1 at the expanded name and the next-hop as the DNS-ID: it is a reference with secure MX (1) and no MX (3), and none with insecure MX (2)
+-- a path that doesn't end in a trusted root (2): 27
+pub each-code :
+    resultOf (fullWith 1 1 2 mail 1 matching 4 1 1 1 mail)
+    ∷ resultOf (fullWith 1 2 2 mail 1 matching 4 1 1 1 mail)
+    ∷ resultOf (fullWith 1 3 2 mail 1 matching 4 1 1 1 mail)
+    ∷ resultOf (fullWith 1 4 2 mail 1 matching 4 1 1 1 mail)
+    ∷ resultOf (fullWith 1 5 2 mail 1 matching 4 1 1 1 mail)
+    ∷ resultOf (fullWith 1 3 2 mail 2 [] 3 1 1 1 mail)
+    ∷ resultOf (fullWith 1 3 2 mail 3 [] 2 1 1 1 mail)
+    ∷ resultOf (fullWith 1 3 2 mail 4 [] 3 1 1 1 mail)
+    ∷ resultOf (fullWith 1 3 2 mail 1 issuing 4 1 1 1 nextHop)
+    ∷ resultOf (fullWith 2 3 2 mail 1 issuing 4 1 1 1 nextHop)
+    ∷ resultOf (fullWith 3 3 2 nextHop 1 issuing 4 1 1 1 nextHop)
+    ∷ resultOf (fullWith 1 1 1 mail 3 [] 3 1 1 2 mail)
+    ∷ []
+    ≡ alone 3 1
+    ∷ alone 2 0
+    ∷ alone 3 1
+    ∷ alone 3 1
+    ∷ alone 2 0
+    ∷ alone 2 2
+    ∷ alone 2 2
+    ∷ alone 22 1
+    ∷ alone 3 1
+    ∷ alone 26 1
+    ∷ alone 3 1
+    ∷ alone 27 1
+    ∷ []
+unfolding hostComputed fullOf testsOf countOf
+each-code = refl
