@@ -16,7 +16,8 @@ use Rattle.numbers.specs.Pieces.{cut, endOf}
 use Rattle.numbers.proofs.Pieces.{cut-next, cut-end, end-after, end-within}
 use Rattle.tlsa.specs.Record.{usageOf, counts}
 use Rattle.certificates.specs.Facts.{Certificate, certificatesOf, dnsIdsOf, commonNameOf, presentedOf}
-use Rattle.certificates.specs.Checks.{matchesCertificate, matchesOnPath, leafOf, afterLeaf, recordMatches, oneMatches, leafNames, someMatches, namesReference, danePasses, showsHost}
+use Rattle.names.specs.Name.{someMatches}
+use Rattle.certificates.specs.Checks.{matchesCertificate, matchesOnPath, leafOf, afterLeaf, recordMatches, oneMatches, leafNames, namesReference, danePasses, showsHost}
 use Rattle.certificates.specs.Steps.{passes, matchOf}
 use Rattle.certificates.specs.declared.Match.{Match}
 use Rattle.certificates.proofs.Limits.{certificates-count}

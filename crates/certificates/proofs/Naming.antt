@@ -9,36 +9,11 @@ use lib.ListN.{length}
 use borrow.Author.Needs.{needs}
 use borrow.Author.Tests.{not-true, not-false}
 use Rattle.lists.specs.Bytes.{any}
-use Rattle.names.specs.Name.{isName}
-use Rattle.names.specs.Scan.{coversName}
-use Rattle.names.proofs.Cover.{matches-covers}
-use Rattle.names.proofs.Match.{no-name}
 use Rattle.numbers.specs.Pieces.{cut}
 use Rattle.certificates.specs.Facts.{commonNameOf}
-use Rattle.certificates.specs.Checks.{references, leafNames, someMatches}
+use Rattle.certificates.specs.Checks.{references, leafNames}
 use Rattle.certificates.specs.declared.Origin.{Origin}
 use Rattle.certificates.specs.declared.Origin.the-variants.{SecureMx, InsecureMx, NoMx}
-
--- for a name n, that some text covers it says that some text matches it; what is no name is matched by none
-covered : (ids : List (List ℕ)) (n : List ℕ) → isName n ≡ true → any (λ (id : List ℕ). coversName id n) ids ≡ someMatches ids n
-unfolding any
-covered [] n h = refl
-covered (id ∷ ids) n h = rw (matches-covers id n h, covered ids n h)
-
-unmatched : (ids : List (List ℕ)) (n : List ℕ) → isName n ≡ false → someMatches ids n ≡ false
-unfolding any
-unmatched [] n h = refl
-unmatched (id ∷ ids) n h = rw (sym (no-name id n (isName n) refl h), unmatched ids n h)
-
--- `has_dns_id`: b is what `is_name` gave, r what `some_covers` gave
-module _ (ids : List (List ℕ)) (n : List ℕ) (b : Bool) (be : b ≡ isName n) where
-  pub id-no-name : b ≡ false → false ≡ someMatches ids n
-  id-no-name f = sym (unmatched ids n (sym be ∙ f))
-
-  pub id-covers : b ≡ true → (r : Bool) → r ≡ any (λ (id : List ℕ). coversName id n) ids → r ≡ someMatches ids n
-  id-covers t r e = e ∙ covered ids n (sym be ∙ t)
-
-pub ruleset id-laws = (id-no-name, id-covers, not-true, not-false, needs)
 
 -- the names that count, where some DNS-ID is listed and where none is
 some-listed : (s ns : List ℕ) (common : Option (List ℕ)) → (length ns ≡ 0 → ⊥) → leafNames (cut s ns) common ≡ cut s ns

@@ -7,7 +7,7 @@ use lib.Dec.{eqb, ltb}
 use lib.ListN.{length, take, drop}
 use Rattle.lists.specs.Bytes.{any}
 use Rattle.lists.specs.Equal.{sameBytes}
-use Rattle.names.specs.Name.{matchesName}
+use Rattle.names.specs.Name.{someMatches}
 use Rattle.tlsa.specs.Record.{usageOf, selectorOf, matchingTypeOf, dataOf, counts}
 use Rattle.certificates.specs.Facts.{Certificate, keyInfo, Presented}
 use Rattle.certificates.specs.declared.Origin.{Origin}
@@ -56,10 +56,6 @@ unfoldable pub leafNames : List (List ℕ) → Option (List ℕ) → List (List 
 leafNames [] none = []
 leafNames [] (some commonName) = commonName ∷ []
 leafNames (id ∷ ids) commonName = id ∷ ids
-
--- One of some presented names matches a reference.
-abbrev pub someMatches : List (List ℕ) → List ℕ → Bool
-someMatches presented reference = any (λ (name : List ℕ). matchesName name reference) presented
 
 -- The leaf names a reference: a name that counts matches one of the references.
 unfoldable pub namesReference : List (List ℕ) → Presented → Bool

@@ -8,13 +8,13 @@ ghost use lib.ListN.{length, getD, take, drop};
 ghost use Rattle.lists.specs.Bytes.{all, any};
 ghost use Rattle.lists.specs.Equal.{sameBytes};
 ghost use Rattle.numbers.specs.Numbers.{numbers};
-ghost use Rattle.names.specs.Scan.{coversName};
+ghost use Rattle.names.specs.Name.{someMatches};
 ghost use Rattle.tlsa.specs.Record.{matchingTypeOf, usable};
 ghost use Rattle.tlsa.specs.Answer.{recordsOf};
 ghost use Rattle.certificates.specs.Facts.{digestAt, certificateAt, certificatesOf, dnsIdsOf, commonNameOf, presentedOf};
 ghost use Rattle.certificates.specs.Limits.{oneForEach, chainFits, namesFit, factsFit, yesNo};
 ghost use Rattle.certificates.specs.Steps.{digestStart, digestOnPath, anyPlace, passes, matchOf, placesFit};
-ghost use Rattle.certificates.specs.Checks.{compared, matchesCertificate, matchesOnPath, leafOf, afterLeaf, references, leafNames, someMatches, danePasses, showsHost};
+ghost use Rattle.certificates.specs.Checks.{compared, matchesCertificate, matchesOnPath, leafOf, afterLeaf, references, leafNames, danePasses, showsHost};
 
 // The origin of the host list: secure MX, insecure MX, or no MX, where the host is the next-hop itself.
 pub enum Origin {
@@ -312,16 +312,16 @@ fn set_match(
     Match::Named
 }
 
-// Whether some DNS-ID covers the name: for a name, whether it matches.
-fn some_covers(dns_ids: &[u8], lengths: &[u8], name: &[u8]) -> bool
-    ensures { λ r. ⌜ r ≡ any (λ (id : List ℕ). coversName id (now (name .entry))) (dnsIdsOf (now («dns_ids» .entry)) (now (lengths .entry))) ⌝ }
+// Whether some DNS-ID matches the name.
+fn has_dns_id(dns_ids: &[u8], lengths: &[u8], name: &[u8]) -> bool
+    ensures { λ r. ⌜ r ≡ someMatches (dnsIdsOf (now («dns_ids» .entry)) (now (lengths .entry))) (now (name .entry)) ⌝ }
 {
     let n = numbers::count(lengths);
     let mut at = 0;
     let mut k = 0;
     while k < n {
         let e = numbers::end_at(lengths, k, at, dns_ids.len());
-        let hit = names::covers(&dns_ids[at..e], name);
+        let hit = names::matches(&dns_ids[at..e], name);
         if hit {
             return true;
         }
@@ -329,17 +329,6 @@ fn some_covers(dns_ids: &[u8], lengths: &[u8], name: &[u8]) -> bool
         k += 1;
     }
     false
-}
-
-// Whether some DNS-ID matches the name. The name is tested once for all of them.
-fn has_dns_id(dns_ids: &[u8], lengths: &[u8], name: &[u8]) -> bool
-    ensures { λ r. ⌜ r ≡ someMatches (dnsIdsOf (now («dns_ids» .entry)) (now (lengths .entry))) (now (name .entry)) ⌝ }
-{
-    let named = names::is_name(name);
-    if !named {
-        return false;
-    }
-    some_covers(dns_ids, lengths, name)
 }
 
 // Whether a name of the leaf that counts matches the reference.

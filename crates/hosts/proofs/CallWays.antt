@@ -2,28 +2,27 @@
 use Prim.Native.Nat.{ℕ}
 use mathlib.Core.Path.{_≡_, refl, sym, _∙_}
 use mathlib.Core.Bool.{Bool, true, false, cond, not, _&&_, and-true}
-use mathlib.Core.List.{List, [], _∷_}
+use mathlib.Core.List.{List}
 use mathlib.Core.Option.{none}
-use native.Mathlib.Omega.{arith}
 use lib.Dec.{eqb}
 use borrow.Author.Needs.{needs}
 use borrow.Author.Tests.{eq-eqb, ne-eqb}
-use Rattle.lists.specs.Bytes.{any}
-use Rattle.lists.proofs.Bools.{and-left}
-use Rattle.names.specs.Name.{isName}
-use Rattle.names.proofs.Cover.{matches-covers}
+use Rattle.lists.proofs.Bools.{never}
+use Rattle.names.specs.Name.{isName, someMatches}
 use Rattle.clock.specs.Clock.{isLive}
 use Rattle.policies.specs.declared.Mode.{Mode}
 use Rattle.policies.specs.declared.Mode.the-variants as M
 use Rattle.policies.specs.declared.PolicyFor.{PolicyFor}
-use Rattle.policies.specs.Policy.{Policy, Reading, tooLong, malformed, incomplete, policy, readBody, modeNumber, answerTo, policyAnswer, someCovers, policyFor, someMatches}
+use Rattle.policies.specs.Policy.{Policy, Reading, tooLong, malformed, incomplete, policy, readBody, modeNumber, answerTo, policyAnswer, policyFor}
 use Rattle.policies.specs.Policy as P
 use Rattle.policies.proofs.Paper.{accepted, patterns-are}
 use Rattle.certificates.specs.Facts.{presentedOf}
 use Rattle.hosts.specs.declared.HostAnswer.{HostAnswer}
+use Rattle.hosts.specs.declared.Refusal.{Refusal}
+use Rattle.hosts.specs.declared.Refusal.the-variants as F
 use Rattle.hosts.specs.Rules.{isEnforce, isEnforced, needsMtaSts, patternsOf, isListed}
-use Rattle.hosts.specs.Arguments.{Arguments, originOf, addressOf, isAlias, held, baseOf, presentedIn, factsOf}
-use Rattle.hosts.specs.Call.{ifSupplied, hostFits, codesFit, clocksFit, hostNamesFit, policyFits, answersFit, certificatesFit, checks, refused, walked, hostAnswer}
+use Rattle.hosts.specs.Arguments.{Arguments, held, baseOf, presentedIn, factsOf}
+use Rattle.hosts.specs.Call.{ifSupplied, codesFit, clocksFit, hostNamesFit, policyFits, answersFit, certificatesFit, checks, refused, walked, hostAnswer}
 use Rattle.hosts.specs.Stages.{firstPart, lastPart, firstRefusal, lastRefusal, noPolicy, givenPolicy, policyNeeds, saying, walkAnswer}
 use Rattle.hosts.proofs.FlatWays.{walk-is}
 
@@ -49,60 +48,46 @@ accepts-seven : (p : Policy) → eqb (answerTo (policy p) .number) 7 ≡ true
 unfolding answerTo
 accepts-seven p = refl
 
--- of a host that is a name, what covers it matches it
-covers-matches : (host : List ℕ) (ps : List (List ℕ)) → isName host ≡ true → someCovers host ps ≡ someMatches host ps
-unfolding any
-covers-matches host [] h = refl
-covers-matches host (p ∷ ps) h = rw (matches-covers p host h, covers-matches host ps h)
-
 -- the patterns that the policy's reader looks at are the policy's
-listed-is : (body host : List ℕ) (p : Policy) → isName host ≡ true → readBody body ≡ policy p → policyFor body host .listed ≡ someMatches host (p .patterns)
+listed-is : (body host : List ℕ) (p : Policy) → readBody body ≡ policy p → policyFor body host .listed ≡ someMatches (p .patterns) host
 unfolding policyFor policyAnswer P.patternsOf
-listed-is body host p n e =
+listed-is body host p e =
     let seven : eqb (answerTo (readBody body) .number) 7 ≡ true = rw e (accepts-seven p) in
-    rw (seven, and-true (someCovers host (P.patternsOf body)), covers-matches host (P.patternsOf body) n, patterns-are body p (accepted body p e))
+    rw (seven, and-true (someMatches (P.patternsOf body) host), patterns-are body p (accepted body p e))
 
 -- under a live enforce policy, the host is listed where the policy of the facts lists it
-pub unlisted-is : (a : Arguments) → isName (a .host) ≡ true → (needsMtaSts (baseOf a) && not (givenPolicy (a .numbers .«policy_given») (a .body) (a .host) .listed)) ≡ (needsMtaSts (baseOf a) && not (isListed (baseOf a)))
+pub unlisted-is : (a : Arguments) → (needsMtaSts (baseOf a) && not (givenPolicy (a .numbers .«policy_given») (a .body) (a .host) .listed)) ≡ (needsMtaSts (baseOf a) && not (isListed (baseOf a)))
 unfolding givenPolicy isListed needsMtaSts baseOf
-unlisted-is a n = go (eqb (a .numbers .«policy_given») 1) (readBody (a .body)) refl
+unlisted-is a = go (eqb (a .numbers .«policy_given») 1) (readBody (a .body)) refl
   where
-    go : (t : Bool) (r : Reading) → readBody (a .body) ≡ r → (isEnforced (a .numbers .clock) (cond t (held (a .numbers .fetched) r) none) && not (cond t (policyFor (a .body) (a .host)) noPolicy .listed)) ≡ (isEnforced (a .numbers .clock) (cond t (held (a .numbers .fetched) r) none) && not (someMatches (a .host) (patternsOf (cond t (held (a .numbers .fetched) r) none))))
+    go : (t : Bool) (r : Reading) → readBody (a .body) ≡ r → (isEnforced (a .numbers .clock) (cond t (held (a .numbers .fetched) r) none) && not (cond t (policyFor (a .body) (a .host)) noPolicy .listed)) ≡ (isEnforced (a .numbers .clock) (cond t (held (a .numbers .fetched) r) none) && not (someMatches (patternsOf (cond t (held (a .numbers .fetched) r) none)) (a .host)))
     go false r e = refl
     go true tooLong e = refl
     go true (malformed f) e = refl
     go true incomplete e = refl
-    go true (policy p) e = rw (listed-is (a .body) (a .host) p n e)
+    go true (policy p) e = rw (listed-is (a .body) (a .host) p e)
 
 -- the first four checks, then x
-module _ (c k m h : Bool) (x : HostAnswer) (f : ℕ) (fe : f ≡ cond c (cond k (cond m (cond h 0 61) 60) 62) 67) where
-  refuses : (f ≡ 0 → ⊥) → saying f 0 ≡ cond c (cond k (cond m (cond h x (refused 61)) (refused 60)) (refused 62)) (refused 67)
-  refuses z = go c k m h fe
+module _ (c k m h : Bool) (x : HostAnswer) (f : Refusal) (fe : f ≡ cond c (cond k (cond m (cond h F.None (F.Number 61)) (F.Number 60)) (F.Number 62)) (F.Number 67)) where
+  refuses : (n : ℕ) → f ≡ F.Number n → saying n 0 ≡ cond c (cond k (cond m (cond h x (refused 61)) (refused 60)) (refused 62)) (refused 67)
+  refuses n z = go c k m h (sym z ∙ fe)
     where
-      go : (c k m h : Bool) → f ≡ cond c (cond k (cond m (cond h 0 61) 60) 62) 67 → saying f 0 ≡ cond c (cond k (cond m (cond h x (refused 61)) (refused 60)) (refused 62)) (refused 67)
-      go true true true true e = absurd (z e)
-      go true true true false e = rw e
-      go true true false h e = rw e
-      go true false m h e = rw e
-      go false k m h e = rw e
+      go : (c k m h : Bool) → F.Number n ≡ cond c (cond k (cond m (cond h F.None (F.Number 61)) (F.Number 60)) (F.Number 62)) (F.Number 67) → saying n 0 ≡ cond c (cond k (cond m (cond h x (refused 61)) (refused 60)) (refused 62)) (refused 67)
+      go true true true true e = never cc
+      go true true true false e = cc
+      go true true false h e = cc
+      go true false m h e = cc
+      go false k m h e = cc
 
-  accepts : f ≡ 0 → cond c (cond k (cond m (cond h x (refused 61)) (refused 60)) (refused 62)) (refused 67) ≡ x
-  accepts z = go c k m h fe
+  accepts : f ≡ F.None → cond c (cond k (cond m (cond h x (refused 61)) (refused 60)) (refused 62)) (refused 67) ≡ x
+  accepts z = go c k m h (sym z ∙ fe)
     where
-      go : (c k m h : Bool) → f ≡ cond c (cond k (cond m (cond h 0 61) 60) 62) 67 → cond c (cond k (cond m (cond h x (refused 61)) (refused 60)) (refused 62)) (refused 67) ≡ x
+      go : (c k m h : Bool) → F.None ≡ cond c (cond k (cond m (cond h F.None (F.Number 61)) (F.Number 60)) (F.Number 62)) (F.Number 67) → cond c (cond k (cond m (cond h x (refused 61)) (refused 60)) (refused 62)) (refused 67) ≡ x
       go true true true true e = refl
-      go true true true false e = absurd (omega arith)
-      go true true false h e = absurd (omega arith)
-      go true false m h e = absurd (omega arith)
-      go false k m h e = absurd (omega arith)
-
--- where none of them refuses, all pass
-passed : (c k m h : Bool) (f : ℕ) → f ≡ cond c (cond k (cond m (cond h 0 61) 60) 62) 67 → f ≡ 0 → h ≡ true
-passed true true true true f e z = refl
-passed true true true false f e z = absurd (omega arith)
-passed true true false h f e z = absurd (omega arith)
-passed true false m h f e z = absurd (omega arith)
-passed false k m h f e z = absurd (omega arith)
+      go true true true false e = never cc
+      go true true false h e = never cc
+      go true false m h e = never cc
+      go false k m h e = never cc
 
 -- the policy's check, then x
 module _ (t : Bool) (read : PolicyFor) (x : HostAnswer) (r : PolicyFor) (re : r ≡ cond t read noPolicy) where
@@ -121,26 +106,26 @@ module _ (t : Bool) (read : PolicyFor) (x : HostAnswer) (r : PolicyFor) (re : r 
       go false e = refl
 
 -- the last two checks, then x
-module _ (c k : Bool) (x : HostAnswer) (l : ℕ) (le : l ≡ cond c (cond k 0 65) 64) where
-  last-refuses : (l ≡ 0 → ⊥) → saying l 0 ≡ cond c (cond k x (refused 65)) (refused 64)
-  last-refuses z = go c k le
+module _ (c k : Bool) (x : HostAnswer) (l : Refusal) (le : l ≡ cond c (cond k F.None (F.Number 65)) (F.Number 64)) where
+  last-refuses : (n : ℕ) → l ≡ F.Number n → saying n 0 ≡ cond c (cond k x (refused 65)) (refused 64)
+  last-refuses n z = go c k (sym z ∙ le)
     where
-      go : (c k : Bool) → l ≡ cond c (cond k 0 65) 64 → saying l 0 ≡ cond c (cond k x (refused 65)) (refused 64)
-      go true true e = absurd (z e)
-      go true false e = rw e
-      go false k e = rw e
+      go : (c k : Bool) → F.Number n ≡ cond c (cond k F.None (F.Number 65)) (F.Number 64) → saying n 0 ≡ cond c (cond k x (refused 65)) (refused 64)
+      go true true e = never cc
+      go true false e = cc
+      go false k e = cc
 
-  last-accepts : l ≡ 0 → cond c (cond k x (refused 65)) (refused 64) ≡ x
-  last-accepts z = go c k le
+  last-accepts : l ≡ F.None → cond c (cond k x (refused 65)) (refused 64) ≡ x
+  last-accepts z = go c k (sym z ∙ le)
     where
-      go : (c k : Bool) → l ≡ cond c (cond k 0 65) 64 → cond c (cond k x (refused 65)) (refused 64) ≡ x
+      go : (c k : Bool) → F.None ≡ cond c (cond k F.None (F.Number 65)) (F.Number 64) → cond c (cond k x (refused 65)) (refused 64) ≡ x
       go true true e = refl
-      go true false e = absurd (omega arith)
-      go false k e = absurd (omega arith)
+      go true false e = never cc
+      go false k e = never cc
 
 -- `judge_host`: f, r, l, e, u are what its calls gave, x is its answer
-module _ (a : Arguments) (f : ℕ) (fe : f ≡ firstRefusal (firstPart (a .numbers) (a .nextHop) (a .host) (a .expanded) (a .paths))) (x : HostAnswer) where
-  first-here : f ≡ cond (codesFit a) (cond (clocksFit a) (cond (isName (a .nextHop)) (cond (hostNamesFit a) 0 61) 60) 62) 67
+module _ (a : Arguments) (f : Refusal) (fe : f ≡ firstRefusal (firstPart (a .numbers) (a .nextHop) (a .host) (a .expanded) (a .paths))) (x : HostAnswer) where
+  first-here : f ≡ cond (codesFit a) (cond (clocksFit a) (cond (isName (a .nextHop)) (cond (hostNamesFit a) F.None (F.Number 61)) (F.Number 60)) (F.Number 62)) (F.Number 67)
   unfolding firstRefusal codesFit clocksFit hostNamesFit
   first-here = fe
 
@@ -151,11 +136,11 @@ module _ (a : Arguments) (f : ℕ) (fe : f ≡ firstRefusal (firstPart (a .numbe
   abbrev afterNames : HostAnswer
   afterNames = cond (policyFits a) afterPolicy (refused (policyAnswer (a .body) .number))
 
-  pub call-first : (f ≡ 0 → ⊥) → x ≡ saying f 0 → x ≡ hostAnswer a
+  pub call-first : (n : ℕ) → f ≡ Refusal.Number n → x ≡ saying n 0 → x ≡ hostAnswer a
   unfolding hostAnswer checks
-  call-first z xe = xe ∙ refuses (codesFit a) (clocksFit a) (isName (a .nextHop)) (hostNamesFit a) afterNames f first-here z
+  call-first n z xe = xe ∙ refuses (codesFit a) (clocksFit a) (isName (a .nextHop)) (hostNamesFit a) afterNames f first-here n z
 
-  module _ (fz : f ≡ 0) (r : PolicyFor) (re : r ≡ givenPolicy (a .numbers .«policy_given») (a .body) (a .host)) where
+  module _ (fz : f ≡ Refusal.None) (r : PolicyFor) (re : r ≡ givenPolicy (a .numbers .«policy_given») (a .body) (a .host)) where
     named : x ≡ afterNames → x ≡ hostAnswer a
     unfolding hostAnswer checks
     named h = h ∙ sym (accepts (codesFit a) (clocksFit a) (isName (a .nextHop)) (hostNamesFit a) afterNames f first-here fz)
@@ -168,13 +153,8 @@ module _ (a : Arguments) (f : ℕ) (fe : f ≡ firstRefusal (firstPart (a .numbe
     unfolding policyFits policyFor
     call-policy z xe = named (xe ∙ policy-refuses (eqb (a .numbers .«policy_given») 1) (policyFor (a .body) (a .host)) afterPolicy r policy-here z)
 
-    -- the host is a name by then
-    host-named : isName (a .host) ≡ true
-    unfolding hostNamesFit
-    host-named = and-left (isName (a .host)) (hostFits (originOf (a .numbers .origin)) (a .host) (a .nextHop)) (and-left (isName (a .host) && hostFits (originOf (a .numbers .origin)) (a .host) (a .nextHop)) (ifSupplied (isAlias (addressOf (a .numbers .address))) (isName (a .expanded))) (passed (codesFit a) (clocksFit a) (isName (a .nextHop)) (hostNamesFit a) f first-here fz))
-
-    module _ (rz : r .answer .number ≡ 7) (l : ℕ) (le : l ≡ lastRefusal (lastPart (a .numbers) (a .lengths1) (a .records1) (a .lengths2) (a .records2) (a .certificates) (a .certificateLengths) (a .keyPlaces) (a .digests) (a .paths) (a .dnsIds) (a .dnsIdLengths) (a .commonName))) where
-      last-here : l ≡ cond (answersFit a) (cond (certificatesFit a) 0 65) 64
+    module _ (rz : r .answer .number ≡ 7) (l : Refusal) (le : l ≡ lastRefusal (lastPart (a .numbers) (a .lengths1) (a .records1) (a .lengths2) (a .records2) (a .certificates) (a .certificateLengths) (a .keyPlaces) (a .digests) (a .paths) (a .dnsIds) (a .dnsIdLengths) (a .commonName))) where
+      last-here : l ≡ cond (answersFit a) (cond (certificatesFit a) F.None (F.Number 65)) (F.Number 64)
       unfolding lastRefusal answersFit certificatesFit
       last-here = le
 
@@ -182,15 +162,15 @@ module _ (a : Arguments) (f : ℕ) (fe : f ≡ firstRefusal (firstPart (a .numbe
       unfolding policyFits policyFor
       read h = named (h ∙ sym (policy-accepts (eqb (a .numbers .«policy_given») 1) (policyFor (a .body) (a .host)) afterPolicy r policy-here rz))
 
-      pub call-last : (l ≡ 0 → ⊥) → x ≡ saying l 0 → x ≡ hostAnswer a
-      call-last z xe = read (xe ∙ last-refuses (answersFit a) (certificatesFit a) (walked (factsOf a)) l last-here z)
+      pub call-last : (n : ℕ) → l ≡ Refusal.Number n → x ≡ saying n 0 → x ≡ hostAnswer a
+      call-last n z xe = read (xe ∙ last-refuses (answersFit a) (certificatesFit a) (walked (factsOf a)) l last-here n z)
 
-      module _ (lz : l ≡ 0) (e : Bool) (ee : e ≡ policyNeeds (r .answer) (a .numbers .fetched) (a .numbers .clock)) (u : Bool) (ue : u ≡ (e && not (r .listed))) where
+      module _ (lz : l ≡ Refusal.None) (e : Bool) (ee : e ≡ policyNeeds (r .answer) (a .numbers .fetched) (a .numbers .clock)) (u : Bool) (ue : u ≡ (e && not (r .listed))) where
         needs-here : e ≡ needsMtaSts (baseOf a)
         needs-here = ee ∙ rw re (needs-is a)
 
         unlisted-here : u ≡ (needsMtaSts (baseOf a) && not (isListed (baseOf a)))
-        unlisted-here = ue ∙ rw (needs-here, re) (unlisted-is a host-named)
+        unlisted-here = ue ∙ rw (needs-here, re) (unlisted-is a)
 
         pub call-walk : x ≡ walkAnswer (a .numbers) e u (a .nextHop) (a .host) (a .expanded) (a .lengths1) (a .records1) (a .lengths2) (a .records2) (presentedOf (a .certificates) (a .certificateLengths) (a .keyPlaces) (a .digests) (a .paths) (eqb (a .numbers .«trusted_root») 1) (a .dnsIds) (a .dnsIdLengths) (eqb (a .numbers .«common_name_given») 1) (a .commonName)) → x ≡ hostAnswer a
         unfolding presentedIn

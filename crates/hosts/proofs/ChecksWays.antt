@@ -16,6 +16,7 @@ use Rattle.tlsa.specs.declared.Lookup.{Lookup}
 use Rattle.tlsa.specs.Answer.{answerFits}
 use Rattle.certificates.specs.declared.Origin.{Origin}
 use Rattle.certificates.specs.Limits.{yesNo, factsFit}
+use Rattle.hosts.specs.declared.Refusal.{Refusal}
 use Rattle.hosts.specs.declared.Numbers.{Numbers}
 use Rattle.hosts.specs.Arguments.{Arguments, originOf, addressOf, isAlias, lookupOf}
 use Rattle.hosts.specs.Call.{ifSupplied, hostFits, codesFit, clocksFit, hostNamesFit, answersFit, certificatesFit}
@@ -181,7 +182,7 @@ module _ (n : Numbers) (hop host expanded Q : List ℕ) (c : Bool) (ce : c ≡ (
   codes-here : c ≡ codesFit (firstPart n hop host expanded Q)
   codes-here = ce ∙ codes-are (firstPart n hop host expanded Q)
 
-  pub first-67 : c ≡ false → 67 ≡ firstRefusal (firstPart n hop host expanded Q)
+  pub first-67 : c ≡ false → Refusal.Number 67 ≡ firstRefusal (firstPart n hop host expanded Q)
   unfolding firstRefusal
   first-67 t = cc (codes-here)
 
@@ -190,12 +191,12 @@ module _ (n : Numbers) (hop host expanded Q : List ℕ) (c : Bool) (ce : c ≡ (
     unfolding clocksFit
     clocks-here = ke
 
-    pub first-62 : k ≡ false → 62 ≡ firstRefusal (firstPart n hop host expanded Q)
+    pub first-62 : k ≡ false → Refusal.Number 62 ≡ firstRefusal (firstPart n hop host expanded Q)
     unfolding firstRefusal
     first-62 t = cc (codes-here, clocks-here)
 
     module _ (kt : k ≡ true) (m : Bool) (me : m ≡ isName hop) where
-      pub first-60 : m ≡ false → 60 ≡ firstRefusal (firstPart n hop host expanded Q)
+      pub first-60 : m ≡ false → Refusal.Number 60 ≡ firstRefusal (firstPart n hop host expanded Q)
       unfolding firstRefusal
       first-60 t = cc (codes-here, clocks-here)
 
@@ -204,11 +205,11 @@ module _ (n : Numbers) (hop host expanded Q : List ℕ) (c : Bool) (ce : c ≡ (
         unfolding hostNamesFit
         names-here = he
 
-        pub first-61 : h ≡ false → 61 ≡ firstRefusal (firstPart n hop host expanded Q)
+        pub first-61 : h ≡ false → Refusal.Number 61 ≡ firstRefusal (firstPart n hop host expanded Q)
         unfolding firstRefusal
         first-61 t = cc (codes-here, clocks-here, names-here)
 
-        pub first-none : h ≡ true → 0 ≡ firstRefusal (firstPart n hop host expanded Q)
+        pub first-none : h ≡ true → Refusal.None ≡ firstRefusal (firstPart n hop host expanded Q)
         unfolding firstRefusal
         first-none t = cc (codes-here, clocks-here, names-here)
 
@@ -216,21 +217,21 @@ pub ruleset first-laws = (first-67, first-62, first-60, first-61, first-none, no
 
 -- `last_refusal`: f, s, c are what its calls gave
 module _ (n : Numbers) (L1 R1 L2 R2 C CL K D Q I IL N : List ℕ) (f : Bool) (fe : f ≡ ifSupplied (leb 1 (n .«tlsa_answers»)) (answerFits (lookupOf (n .«tlsa1_result»)) L1 R1)) where
-  pub last-first : f ≡ false → 64 ≡ lastRefusal (lastPart n L1 R1 L2 R2 C CL K D Q I IL N)
+  pub last-first : f ≡ false → Refusal.Number 64 ≡ lastRefusal (lastPart n L1 R1 L2 R2 C CL K D Q I IL N)
   unfolding lastRefusal answersFit
   last-first t = cc
 
   module _ (ft : f ≡ true) (s : Bool) (se : s ≡ ifSupplied (leb 2 (n .«tlsa_answers»)) (answerFits (lookupOf (n .«tlsa2_result»)) L2 R2)) where
-    pub last-second : s ≡ false → 64 ≡ lastRefusal (lastPart n L1 R1 L2 R2 C CL K D Q I IL N)
+    pub last-second : s ≡ false → Refusal.Number 64 ≡ lastRefusal (lastPart n L1 R1 L2 R2 C CL K D Q I IL N)
     unfolding lastRefusal answersFit
     last-second t = cc
 
     module _ (st : s ≡ true) (c : Bool) (ce : c ≡ ifSupplied (eqb (n .«certificates_given») 1) (factsFit C CL K D Q I IL (eqb (n .«common_name_given») 1) N)) where
-      pub last-65 : c ≡ false → 65 ≡ lastRefusal (lastPart n L1 R1 L2 R2 C CL K D Q I IL N)
+      pub last-65 : c ≡ false → Refusal.Number 65 ≡ lastRefusal (lastPart n L1 R1 L2 R2 C CL K D Q I IL N)
       unfolding lastRefusal answersFit certificatesFit
       last-65 t = cc
 
-      pub last-none : c ≡ true → 0 ≡ lastRefusal (lastPart n L1 R1 L2 R2 C CL K D Q I IL N)
+      pub last-none : c ≡ true → Refusal.None ≡ lastRefusal (lastPart n L1 R1 L2 R2 C CL K D Q I IL N)
       unfolding lastRefusal answersFit certificatesFit
       last-none t = cc
 

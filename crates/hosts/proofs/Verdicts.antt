@@ -13,7 +13,7 @@ use Rattle.lists.proofs.Bools.{apart, holds, by-true, by-cond}
 use Rattle.clock.specs.Clock.{isLive}
 use Rattle.policies.specs.declared.Mode.{Mode}
 use Rattle.policies.specs.declared.Mode.the-variants as M
-use Rattle.policies.specs.Policy.{someMatches}
+use Rattle.names.specs.Name.{someMatches}
 use Rattle.tlsa.specs.declared.Address.{Address}
 use Rattle.tlsa.specs.declared.Address.the-variants.{NoAliasSecure, NoAliasInsecure, AliasSecure, AliasFirstStepSecure, AliasFirstStepInsecure, Failed, NoAddress}
 use Rattle.tlsa.specs.Address.{TlsaName, expandedName, hostName, names, namesToTry}
@@ -117,7 +117,7 @@ module _ (b : Base) (f : Full) where
   unfolding isListed any
   listed-is = go (b .policy)
     where
-      go : (p : Option HeldPolicy) → listsHost (b .host) p ≡ someMatches (b .host) (patternsOf p)
+      go : (p : Option HeldPolicy) → listsHost (b .host) p ≡ someMatches (patternsOf p) (b .host)
       go none = refl
       go (some p) = refl
 

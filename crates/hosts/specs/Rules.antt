@@ -3,10 +3,10 @@ use Prim.Native.Nat.{ℕ}
 use mathlib.Core.Bool.{Bool, true, false, not, cond, _&&_, _||_}
 use mathlib.Core.List.{List, [], _∷_}
 use mathlib.Core.Option.{Option, none, some}
+use Rattle.names.specs.Name.{someMatches}
 use Rattle.clock.specs.Clock.{isLive}
 use Rattle.policies.specs.declared.Mode.{Mode}
 use Rattle.policies.specs.declared.Mode.the-variants as M
-use Rattle.policies.specs.Policy.{someMatches}
 use Rattle.tlsa.specs.declared.Needs.{Needs}
 use Rattle.tlsa.specs.declared.Needs.the-variants as N
 use Rattle.tlsa.specs.declared.Read.{Read}
@@ -41,7 +41,7 @@ patternsOf (some p) = p .policy .patterns
 
 -- a policy pattern matches the host
 unfoldable pub isListed : Base → Bool
-isListed b = someMatches (b .host) (patternsOf (b .policy))
+isListed b = someMatches (patternsOf (b .policy)) (b .host)
 
 -- MTA-STS passes when a policy pattern matches the host, the trusted-root flag holds and a DNS-ID matches the host
 unfoldable pub mtaStsPasses : Base → Presented → Bool

@@ -27,6 +27,8 @@ use Rattle.certificates.specs.Checks.{references, danePasses, showsHost}
 use Rattle.certificates.specs.Limits.{yesNo}
 use Rattle.hosts.specs.declared.HostAnswer.{HostAnswer}
 use Rattle.hosts.specs.declared.Numbers.{Numbers}
+use Rattle.hosts.specs.declared.Refusal.{Refusal}
+use Rattle.hosts.specs.declared.Refusal.the-variants as F
 use Rattle.hosts.specs.declared.MaybeRead.{MaybeRead}
 use Rattle.hosts.specs.declared.MaybeRead.the-variants.{NotGiven, Is}
 use Rattle.hosts.specs.declared.Found.{Found}
@@ -68,13 +70,13 @@ abbrev pub lastPart : Numbers → (lengths1 records1 lengths2 records2 certifica
 lastPart n lengths1 records1 lengths2 records2 certificates certificateLengths keyPlaces digests paths dnsIds dnsIdLengths commonName =
     argumentsOf n [] [] [] [] lengths1 records1 lengths2 records2 certificates certificateLengths keyPlaces digests paths dnsIds dnsIdLengths commonName
 
--- the first refusal among 67, 62, 60, 61; 0 for none
-unfoldable pub firstRefusal : Arguments → ℕ
-firstRefusal a = cond (codesFit a) (cond (clocksFit a) (cond (isName (a .nextHop)) (cond (hostNamesFit a) 0 61) 60) 62) 67
+-- the first refusal among 67, 62, 60, 61, or none
+unfoldable pub firstRefusal : Arguments → Refusal
+firstRefusal a = cond (codesFit a) (cond (clocksFit a) (cond (isName (a .nextHop)) (cond (hostNamesFit a) F.None (F.Number 61)) (F.Number 60)) (F.Number 62)) (F.Number 67)
 
--- the first refusal among 64, 65; 0 for none
-unfoldable pub lastRefusal : Arguments → ℕ
-lastRefusal a = cond (answersFit a) (cond (certificatesFit a) 0 65) 64
+-- the first refusal among 64, 65, or none
+unfoldable pub lastRefusal : Arguments → Refusal
+lastRefusal a = cond (answersFit a) (cond (certificatesFit a) F.None (F.Number 65)) (F.Number 64)
 
 -- the policy
 

@@ -11,6 +11,7 @@ ghost use Rattle.hosts.specs.Arguments.{lookupOf};
 ghost use Rattle.hosts.specs.Call.{ifSupplied, hostFits, hostNamesFit};
 ghost use Rattle.hosts.specs.Stages.{baseCodesFit, laterCodesFit, certificateCodesFit, firstPart, lastPart, firstRefusal, lastRefusal};
 use super::Numbers;
+use super::Refusal;
 use certificates::Origin;
 use clock::Reading;
 
@@ -153,27 +154,33 @@ fn host_names_fit(n: Numbers, next_hop: &[u8], host: &[u8], expanded: &[u8]) -> 
     names::is_name(expanded)
 }
 
-// The first refusal among 67, 62, 60 and 61; 0 for none.
-pub fn first_refusal(n: Numbers, next_hop: &[u8], host: &[u8], expanded: &[u8], paths: &[u8]) -> u64
+// The first refusal among 67, 62, 60 and 61, or none.
+pub fn first_refusal(
+    n: Numbers,
+    next_hop: &[u8],
+    host: &[u8],
+    expanded: &[u8],
+    paths: &[u8],
+) -> Refusal
     ensures { λ r. ⌜ r ≡ firstRefusal (firstPart n (now («next_hop» .entry)) (now (host .entry)) (now (expanded .entry)) (now (paths .entry))) ⌝ }
 {
     let codes = codes_fit(n, paths);
     if !codes {
-        return 67;
+        return Refusal::Number(67);
     }
     let clocks = clocks_fit(n.clock, n.policy_given, n.fetched);
     if !clocks {
-        return 62;
+        return Refusal::Number(62);
     }
     let named = names::is_name(next_hop);
     if !named {
-        return 60;
+        return Refusal::Number(60);
     }
     let fits = host_names_fit(n, next_hop, host, expanded);
     if !fits {
-        return 61;
+        return Refusal::Number(61);
     }
-    0
+    Refusal::None
 }
 
 // Whether a TLSA answer, if it is supplied, keeps the limits.
@@ -218,7 +225,7 @@ fn certificates_fit(
     )
 }
 
-// The first refusal among 64 and 65; 0 for none.
+// The first refusal among 64 and 65, or none.
 pub fn last_refusal(
     n: Numbers,
     tlsa1_lengths: &[u8],
@@ -233,7 +240,7 @@ pub fn last_refusal(
     dns_ids: &[u8],
     dns_id_lengths: &[u8],
     common_name: &[u8],
-) -> u64
+) -> Refusal
     ensures { λ r. ⌜ r ≡ lastRefusal (lastPart n (now («tlsa1_lengths» .entry)) (now («tlsa1_records» .entry)) (now («tlsa2_lengths» .entry)) (now («tlsa2_records» .entry)) (now (certificates .entry)) (now («certificate_lengths» .entry)) (now («key_places» .entry)) (now (digests .entry)) (now (paths .entry)) (now («dns_ids» .entry)) (now («dns_id_lengths» .entry)) (now («common_name» .entry))) ⌝ }
 {
     let first = answer_fits(
@@ -243,7 +250,7 @@ pub fn last_refusal(
         tlsa1_records,
     );
     if !first {
-        return 64;
+        return Refusal::Number(64);
     }
     let second = answer_fits(
         2 <= n.tlsa_answers,
@@ -252,7 +259,7 @@ pub fn last_refusal(
         tlsa2_records,
     );
     if !second {
-        return 64;
+        return Refusal::Number(64);
     }
     let fit = certificates_fit(
         n.certificates_given == 1,
@@ -267,7 +274,7 @@ pub fn last_refusal(
         common_name,
     );
     if !fit {
-        return 65;
+        return Refusal::Number(65);
     }
-    0
+    Refusal::None
 }

@@ -33,6 +33,12 @@ pub struct Numbers {
     pub common_name_given: u64,
 }
 
+// The number of a refusal, or none.
+pub enum Refusal {
+    None,
+    Number(u64),
+}
+
 // What reading a TLSA answer comes to, where it is given.
 pub enum MaybeRead {
     NotGiven,
@@ -83,8 +89,8 @@ pub fn judge_host<'a>(
     ensures { λ r. ⌜ r ≡ hostAnswer (argumentsOf n (now («next_hop» .entry)) (now (host .entry)) (now (expanded .entry)) (now (policy .entry)) (now («tlsa1_lengths» .entry)) (now («tlsa1_records» .entry)) (now («tlsa2_lengths» .entry)) (now («tlsa2_records» .entry)) (now (certificates .entry)) (now («certificate_lengths» .entry)) (now («key_places» .entry)) (now (digests .entry)) (now (paths .entry)) (now («dns_ids» .entry)) (now («dns_id_lengths» .entry)) (now («common_name» .entry))) ⌝ }
 {
     let first = checks::first_refusal(n, next_hop, host, expanded, paths);
-    if first != 0 {
-        return walk::say(first, 0);
+    if let Refusal::Number(number) = first {
+        return walk::say(number, 0);
     }
     let given = walk::given_policy(n.policy_given, policy, host);
     let read = given.answer;
@@ -106,8 +112,8 @@ pub fn judge_host<'a>(
         dns_id_lengths,
         common_name,
     );
-    if last != 0 {
-        return walk::say(last, 0);
+    if let Refusal::Number(number) = last {
+        return walk::say(number, 0);
     }
     let sts = walk::policy_needs(read, n.fetched, n.clock);
     let unlisted = walk::is_unlisted(sts, given.listed);

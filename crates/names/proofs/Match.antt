@@ -1,7 +1,7 @@
 -- The ways out of `covers`, `matches` and `is_pattern`. Assumes nothing.
 use Prim.Native.Nat.{ℕ, _+_, _-_, _<_, _≤_}
 use mathlib.Core.Path.{_≡_, refl, sym, _∙_}
-use mathlib.Core.Bool.{Bool, true, false, cond, _&&_, and-false, or-false}
+use mathlib.Core.Bool.{Bool, true, false, cond, _&&_, and-true, and-false, or-false}
 use mathlib.Core.List.{List, [], _∷_}
 use native.Mathlib.Omega.{arith}
 use lib.Dec.{eqb, leb}
@@ -17,16 +17,24 @@ use Rattle.names.specs.Name.{labelByte, isLabel, isName, isStarred, isWi
 use Rattle.names.specs.Scan.{coversName}
 use Rattle.names.proofs.Cover.{matches-covers}
 
--- `matches`: r is what `is_name` gave
-module _ (p n : List ℕ) (r : Bool) (named : r ≡ isName n) where
-  pub no-name : r ≡ false → false ≡ matchesName p n
-  unfolding matchesName
-  no-name f = cc
+-- a pattern matches n exactly where it covers n and n is a name
+covers-name : (p n : List ℕ) → matchesName p n ≡ (coversName p n && isName n)
+unfolding matchesName
+covers-name p n = go (isName n) refl
+  where
+    go : (t : Bool) → isName n ≡ t → matchesName p n ≡ (coversName p n && t)
+    go true e = sym (matches-covers p n e) ∙ sym (and-true (coversName p n))
+    go false e = rw (and-false (coversName p n), e)
 
-  pub name-covered : r ≡ true → (x : Bool) → x ≡ coversName p n → x ≡ matchesName p n
-  name-covered t x e = e ∙ matches-covers p n (sym named ∙ t)
+-- `matches`: q is what `covers` gave
+module _ (p n : List ℕ) (q : Bool) (gave : q ≡ coversName p n) where
+  pub not-covered : q ≡ false → false ≡ matchesName p n
+  not-covered f = sym (rw (covers-name p n, sym gave ∙ f) refl)
 
-pub ruleset matches-laws = (no-name, name-covered, not-true, not-false, needs)
+  pub covered : q ≡ true → (r : Bool) → r ≡ isName n → r ≡ matchesName p n
+  covered t r e = e ∙ sym (rw (covers-name p n, sym gave ∙ t) refl)
+
+pub ruleset matches-laws = (not-covered, covered, not-true, not-false, needs)
 
 -- what begins with `*.` has two bytes at least
 pub starred-long : (p : List ℕ) (r : Bool) → r ≡ isStarred p → r ≡ true → 2 ≤ length p

@@ -5,7 +5,7 @@ use mathlib.Core.Bool.{Bool, not, _&&_, _||_}
 use mathlib.Core.List.{List}
 use lib.Dec.{eqb, leb}
 use lib.ListN.{length, getD, drop}
-use Rattle.lists.specs.Bytes.{within, all}
+use Rattle.lists.specs.Bytes.{within, all, any}
 use Rattle.lists.specs.Equal.{sameText}
 use Rattle.lists.specs.Split.{indexOf, split}
 
@@ -40,3 +40,7 @@ afterFirst n = drop (indexOf (code ".") n + 1) n
 -- p matches the name n: a plain name the equal name only, `*.N` the names made of one label, a dot and N, ignoring ASCII case; anything else nothing
 unfoldable pub matchesName : List ℕ → List ℕ → Bool
 matchesName p n = isName n && (isName p && sameText p n || isWildcard p && sameText (drop 2 p) (afterFirst n))
+
+-- one of some patterns or presented names matches the name n
+abbrev pub someMatches : List (List ℕ) → List ℕ → Bool
+someMatches ps n = any (λ (p : List ℕ). matchesName p n) ps

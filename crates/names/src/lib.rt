@@ -132,8 +132,9 @@ pub fn is_pattern(p: &[u8]) -> bool
     is_name(p)
 }
 
-// Whether the pattern covers n: for a name n, whether it matches n. The pattern needs no test of its own, since what equals a name is one.
-pub fn covers(pattern: &[u8], n: &[u8]) -> bool
+// Whether the texts are equal, or the pattern is `*.` and what follows the first dot of n: of a name n, whether the pattern matches it. The pattern needs no test of its own, since what
+// equals a name is one.
+fn covers(pattern: &[u8], n: &[u8]) -> bool
     ensures { λ r. ⌜ r ≡ coversName (now (pattern .entry)) (now (n .entry)) ⌝ }
 {
     let equal = lists::equal_ignoring_case(pattern, n);
@@ -151,13 +152,14 @@ pub fn covers(pattern: &[u8], n: &[u8]) -> bool
     lists::equal_ignoring_case(&pattern[2..], &n[dot + 1..])
 }
 
-// Whether the pattern matches the name n; false where n is no name, or the pattern is neither a name nor `*.` and a name.
+// Whether the pattern matches the name n; false where n is no name, or the pattern is neither a name nor `*.` and a name. Whether n is a name is asked last, since most patterns are
+// told by the comparison.
 pub fn matches(pattern: &[u8], n: &[u8]) -> bool
     ensures { λ r. ⌜ r ≡ matchesName (now (pattern .entry)) (now (n .entry)) ⌝ }
 {
-    let named = is_name(n);
-    if !named {
+    let covered = covers(pattern, n);
+    if !covered {
         return false;
     }
-    covers(pattern, n)
+    is_name(n)
 }

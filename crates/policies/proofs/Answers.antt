@@ -12,6 +12,7 @@ use Rattle.lists.specs.Text.{text}
 use Rattle.lists.proofs.Bools.{never}
 use Rattle.clock.specs.declared.Lifetime.{Lifetime}
 use Rattle.clock.specs.Clock.{lifetimeOf}
+use Rattle.names.specs.Name.{someMatches}
 use Rattle.policies.specs.declared.Mode.{Mode}
 use Rattle.policies.specs.declared.Mode.the-variants as M
 use Rattle.policies.specs.declared.Fault.{Fault}
@@ -22,7 +23,7 @@ use Rattle.policies.specs.declared.Seen.{Seen}
 use Rattle.policies.specs.declared.Checked.{Checked}
 use Rattle.policies.specs.Lines.{lines}
 use Rattle.policies.specs.Fields.{anyNamed, patterns}
-use Rattle.policies.specs.Policy.{incomplete, policy, bodyFault, firstMode, firstAge, hasPatterns, complete, completed, judged, readBody, modeNumber, refused, answerTo, policyAnswer, patternsOf, someCovers, policyFor}
+use Rattle.policies.specs.Policy.{incomplete, policy, bodyFault, firstMode, firstAge, hasPatterns, complete, completed, judged, readBody, modeNumber, refused, answerTo, policyAnswer, patternsOf, policyFor}
 use Rattle.policies.specs.Reader.{heldMode, heldAge, holdsMode, modeHeld, seenIn, outcome, checked, accepted, enough, answerIn, answerWith, answerOf, forHost}
 use Rattle.policies.proofs.Same.{none-held, mode-held}
 
@@ -134,39 +135,39 @@ refused-for number e x y = rw (e, and-false x, and-false y)
 
 -- `read_body`: c is what `check` gave, r is the answer
 module _ (s host : List ℕ) (x : Bool) (a : PolicyAnswer) (r : PolicyFor) where
-  pub too-long : 65536 < length s → a ≡ refused 50 → r ≡ forHost a false → r ≡ forHost (policyAnswer s) (x || someCovers host (patternsOf s))
+  pub too-long : 65536 < length s → a ≡ refused 50 → r ≡ forHost a false → r ≡ forHost (policyAnswer s) (x || someMatches (patternsOf s) host)
   unfolding policyAnswer readBody answerTo
-  too-long h e f = rw (lt-ltb 65536 (length s) h) (f ∙ rw e (refused-for 50 refl false (x || someCovers host (patternsOf s))))
+  too-long h e f = rw (lt-ltb 65536 (length s) h) (f ∙ rw e (refused-for 50 refl false (x || someMatches (patternsOf s) host)))
 
   module _ (c : Checked) (g : c ≡ checked host x s) (h : length s ≤ 65536) where
-    pub malformed-body : (b : Fault) → c ≡ Checked.Refused b → a ≡ refused 51 → r ≡ forHost a false → r ≡ forHost (policyAnswer s) (x || someCovers host (patternsOf s))
+    pub malformed-body : (b : Fault) → c ≡ Checked.Refused b → a ≡ refused 51 → r ≡ forHost a false → r ≡ forHost (policyAnswer s) (x || someMatches (patternsOf s) host)
     unfolding policyAnswer readBody checked judged outcome answerTo
     malformed-body b k e i = rw (le-ltb 65536 (length s) h) (go (bodyFault s) (sym g ∙ k))
       where
-        go : (f : Option Fault) → outcome (seenIn (lines s)) (length (patterns (lines s))) (x || someCovers host (patterns (lines s))) f ≡ Checked.Refused b → r ≡ forHost (answerTo (judged f (lines s))) (x || someCovers host (patternsOf s))
+        go : (f : Option Fault) → outcome (seenIn (lines s)) (length (patterns (lines s))) (x || someMatches (patterns (lines s)) host) f ≡ Checked.Refused b → r ≡ forHost (answerTo (judged f (lines s))) (x || someMatches (patternsOf s) host)
         go none k = never cc
-        go (some f) k = i ∙ rw e (refused-for 51 refl false (x || someCovers host (patternsOf s)))
+        go (some f) k = i ∙ rw e (refused-for 51 refl false (x || someMatches (patternsOf s) host))
 
-    pub sound-body : (q : Seen) (m : ℕ) (y : Bool) → c ≡ Checked.Read q m y → a ≡ answerOf q m → r ≡ forHost a y → r ≡ forHost (policyAnswer s) (x || someCovers host (patternsOf s))
+    pub sound-body : (q : Seen) (m : ℕ) (y : Bool) → c ≡ Checked.Read q m y → a ≡ answerOf q m → r ≡ forHost a y → r ≡ forHost (policyAnswer s) (x || someMatches (patternsOf s) host)
     unfolding policyAnswer readBody checked judged outcome completed answerOf seenIn patternsOf
     sound-body q m y k e i = rw (le-ltb 65536 (length s) h) (go (bodyFault s) (sym g ∙ k))
       where
-        go : (f : Option Fault) → outcome (seenIn (lines s)) (length (patterns (lines s))) (x || someCovers host (patterns (lines s))) f ≡ Checked.Read q m y → r ≡ forHost (answerTo (judged f (lines s))) (x || someCovers host (patterns (lines s)))
+        go : (f : Option Fault) → outcome (seenIn (lines s)) (length (patterns (lines s))) (x || someMatches (patterns (lines s)) host) f ≡ Checked.Read q m y → r ≡ forHost (answerTo (judged f (lines s))) (x || someMatches (patterns (lines s)) host)
         go none k =
             let u : q ≡ seenIn (lines s) = cc in
             let v : m ≡ length (patterns (lines s)) = cc in
-            let w : y ≡ (x || someCovers host (patterns (lines s))) = cc in
+            let w : y ≡ (x || someMatches (patterns (lines s)) host) = cc in
             i ∙ rw (w, e, u, v, answer-same (anyNamed (text "version") (lines s)) (firstMode (lines s)) (firstAge (lines s)) (patterns (lines s)))
         go (some f) k = never cc
 
 pub ruleset body-laws = (too-long, malformed-body, sound-body, needs)
 
 -- `read_policy` and `read_policy_for`: r is what `read_body` gave
-pub answer-alone : (s host : List ℕ) (x : Bool) (r : PolicyFor) → r ≡ forHost (policyAnswer s) (x || someCovers host (patternsOf s)) → r .answer ≡ policyAnswer s
+pub answer-alone : (s host : List ℕ) (x : Bool) (r : PolicyFor) → r ≡ forHost (policyAnswer s) (x || someMatches (patternsOf s) host) → r .answer ≡ policyAnswer s
 unfolding forHost
 answer-alone s host x r e = rw e
 
-pub answer-for : (s host : List ℕ) (r : PolicyFor) → r ≡ forHost (policyAnswer s) (false || someCovers host (patternsOf s)) → r ≡ policyFor s host
+pub answer-for : (s host : List ℕ) (r : PolicyFor) → r ≡ forHost (policyAnswer s) (false || someMatches (patternsOf s) host) → r ≡ policyFor s host
 unfolding forHost policyFor
 answer-for s host r e = e
 

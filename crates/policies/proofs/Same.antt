@@ -16,8 +16,7 @@ use Rattle.lists.specs.Split.{indexOf}
 use Rattle.lists.specs.Text.{text}
 use Rattle.lists.proofs.Agree.{same-bytes}
 use Rattle.lists.proofs.Bools.{never}
-use Rattle.names.specs.Name.{isPattern}
-use Rattle.names.specs.Scan.{coversName}
+use Rattle.names.specs.Name.{isPattern, matchesName, someMatches}
 use Rattle.fields.specs.Name.{hasName}
 use Rattle.fields.proofs.Name.{has-inside}
 use Rattle.policies.specs.declared.Mode.{Mode}
@@ -38,7 +37,7 @@ use Rattle.policies.specs.declared.Checked.{Checked}
 use Rattle.policies.specs.Texts.{isValue}
 use Rattle.policies.specs.Lines.{lines, lineStart}
 use Rattle.policies.specs.Fields.{nameOf, valueOf, isLine, isNamed, anyNamed, firstNamed, patterns, isVersion, modeOf, ageOf, isThere, isFirst, causeAfter}
-use Rattle.policies.specs.Policy.{faultAt, orLater, firstFault, bodyFault, modeIn, ageIn, firstMode, firstAge, someCovers}
+use Rattle.policies.specs.Policy.{faultAt, orLater, firstFault, bodyFault, modeIn, ageIn, firstMode, firstAge}
 use Rattle.policies.specs.Reader.{kindOf, heldMode, heldAge, holdsMode, holdsAge, newMode, newAge, takeVersion, takeMode, takeAge, takeMx, takeField, takeLine, lineEnd, lineAt, placed, turnAt, seenIn, outcome, checked}
 use Rattle.policies.proofs.Body.{lines-at, next-after, next-within, next-start}
 
@@ -205,13 +204,13 @@ absorb-none r = rw (or-false (r .version), mode-alone (r .mode), age-alone (r .a
 -- one line: what it does to the fields, against its cause
 module _ (host s : List ℕ) (earlier ls : List (List ℕ)) (r : Seen) (m : ℕ) (x : Bool) (l : List ℕ) (a : Agrees r earlier) where
   Goal : Type 0
-  Goal = run host s r m x (length earlier) (l ∷ ls) ≡ outcome (absorb r (l ∷ ls)) (m + length (patterns (l ∷ ls))) (x || someCovers host (patterns (l ∷ ls))) (firstFault s earlier (l ∷ ls))
+  Goal = run host s r m x (length earlier) (l ∷ ls) ≡ outcome (absorb r (l ∷ ls)) (m + length (patterns (l ∷ ls))) (x || someMatches (patterns (l ∷ ls)) host) (firstFault s earlier (l ∷ ls))
 
   IH : Type 0
-  IH = (q : Seen) (k : ℕ) (y : Bool) → Agrees q (l ∷ earlier) → run host s q k y (suc (length earlier)) ls ≡ outcome (absorb q ls) (k + length (patterns ls)) (y || someCovers host (patterns ls)) (firstFault s (l ∷ earlier) ls)
+  IH = (q : Seen) (k : ℕ) (y : Bool) → Agrees q (l ∷ earlier) → run host s q k y (suc (length earlier)) ls ≡ outcome (absorb q ls) (k + length (patterns ls)) (y || someMatches (patterns ls) host) (firstFault s (l ∷ earlier) ls)
 
   -- a sound line that leaves the fields q, the count k and the flag y
-  onward : (q : Seen) (k : ℕ) (y : Bool) → IH → Agrees q (l ∷ earlier) → ((z : Checked) → stopOr s (length earlier) (takeLine host x r l) z ≡ z) → seenAfter r (takeLine host x r l) ≡ q → countAfter m (takeLine host x r l) ≡ k → listedAfter x (takeLine host x r l) ≡ y → causeAfter earlier l ≡ none → absorb r (l ∷ ls) ≡ absorb q ls → m + length (patterns (l ∷ ls)) ≡ k + length (patterns ls) → (x || someCovers host (patterns (l ∷ ls))) ≡ (y || someCovers host (patterns ls)) → Goal
+  onward : (q : Seen) (k : ℕ) (y : Bool) → IH → Agrees q (l ∷ earlier) → ((z : Checked) → stopOr s (length earlier) (takeLine host x r l) z ≡ z) → seenAfter r (takeLine host x r l) ≡ q → countAfter m (takeLine host x r l) ≡ k → listedAfter x (takeLine host x r l) ≡ y → causeAfter earlier l ≡ none → absorb r (l ∷ ls) ≡ absorb q ls → m + length (patterns (l ∷ ls)) ≡ k + length (patterns ls) → (x || someMatches (patterns (l ∷ ls)) host) ≡ (y || someMatches (patterns ls) host) → Goal
   unfolding Goal IH run firstFault orLater
   onward q k y ih b st se co li ca ab pa cv = st _ ∙ rw (se, co, li, add-one (length earlier), ca, ab, pa, cv) (ih q k y b)
 
@@ -249,7 +248,7 @@ module _ (host s : List ℕ) (earlier ls : List (List ℕ)) (r : Seen) (m : ℕ)
     unfolding patterns
     pa = rw nx
 
-    cv : (x || someCovers host (patterns (l ∷ ls))) ≡ (x || someCovers host (cond (isMxKind k) (valueOf l ∷ patterns ls) (patterns ls)))
+    cv : (x || someMatches (patterns (l ∷ ls)) host) ≡ (x || someMatches (cond (isMxKind k) (valueOf l ∷ patterns ls) (patterns ls)) host)
     unfolding patterns
     cv = rw nx
 
@@ -267,8 +266,8 @@ module _ (host s : List ℕ) (earlier ls : List (List ℕ)) (r : Seen) (m : ℕ)
     mx : (t : Bool) → isPattern (valueOf l) ≡ t → kindOf (nameOf l) ≡ K.Mx → Goal
     unfolding takeField takeMx stopOr seenAfter countAfter listedAfter any
     mx true p e =
-        let st : takeLine host x r l ≡ Pattern (x || coversName (valueOf l) host) = tk il K.Mx e ∙ rw p in
-        onward r (m + 1) (x || coversName (valueOf l) host) ih (ag il K.Mx e r refl refl refl) (λ z. rw st) (rw st) (rw st) (rw st) (ca il K.Mx e ∙ rw p) (ab il K.Mx e) (pa il K.Mx e ∙ omega arith) (cv il K.Mx e ∙ sym (or-assoc x (coversName (valueOf l) host) (someCovers host (patterns ls))))
+        let st : takeLine host x r l ≡ Pattern (x || matchesName (valueOf l) host) = tk il K.Mx e ∙ rw p in
+        onward r (m + 1) (x || matchesName (valueOf l) host) ih (ag il K.Mx e r refl refl refl) (λ z. rw st) (rw st) (rw st) (rw st) (ca il K.Mx e ∙ rw p) (ab il K.Mx e) (pa il K.Mx e ∙ omega arith) (cv il K.Mx e ∙ sym (or-assoc x (matchesName (valueOf l) host) (someMatches (patterns ls) host)))
     mx false p e = broken Cause.Mx (tk il K.Mx e ∙ rw p) (ca il K.Mx e ∙ rw p)
 
     version : (h t : Bool) → r .version ≡ h → isVersion (valueOf l) ≡ t → kindOf (nameOf l) ≡ K.Version → Goal
@@ -316,7 +315,7 @@ module _ (host s : List ℕ) (earlier ls : List (List ℕ)) (r : Seen) (m : ℕ)
   line true il ih = each il ih (kindOf (nameOf l)) refl
   line false il ih = broken Cause.Form (rw il) (rw il)
 
-same : (host s : List ℕ) (earlier ls : List (List ℕ)) (r : Seen) (m : ℕ) (x : Bool) → Agrees r earlier → run host s r m x (length earlier) ls ≡ outcome (absorb r ls) (m + length (patterns ls)) (x || someCovers host (patterns ls)) (firstFault s earlier ls)
+same : (host s : List ℕ) (earlier ls : List (List ℕ)) (r : Seen) (m : ℕ) (x : Bool) → Agrees r earlier → run host s r m x (length earlier) ls ≡ outcome (absorb r ls) (m + length (patterns ls)) (x || someMatches (patterns ls) host) (firstFault s earlier ls)
 unfolding run firstFault outcome patterns any Goal IH
 same host s earlier [] r m x a = rw (absorb-none r, add-zero m, or-false x)
 same host s earlier (l ∷ ls) r m x a = line host s earlier ls r m x l a (isLine l) refl (λ q k y b. same host s (l ∷ earlier) ls q k y b)

@@ -19,8 +19,7 @@ use Rattle.lists.proofs.Laws.{take-rest}
 use Rattle.lists.proofs.Span.{span-le, span-stops}
 use Rattle.lists.proofs.All.{all-drop, all-take}
 use Rattle.lists.proofs.Bools.{never}
-use Rattle.names.specs.Name.{isPattern}
-use Rattle.names.specs.Scan.{coversName}
+use Rattle.names.specs.Name.{isPattern, matchesName}
 use Rattle.fields.specs.Name.{after, hasName}
 use Rattle.fields.specs.Blank.{blank, unblanked}
 use Rattle.fields.proofs.Blank.{unblanked-le}
@@ -94,9 +93,9 @@ module _ (h : List ℕ) (x : Bool) (v : List ℕ) (b : Bool) (g : b ≡ isPatter
   unfolding takeMx
   mx-listed e f = cc
 
-  pub mx-covers : b ≡ true → x ≡ false → (y : Bool) → y ≡ coversName v h → Step.Pattern y ≡ takeMx h x v
+  pub mx-matches : b ≡ true → x ≡ false → (y : Bool) → y ≡ matchesName v h → Step.Pattern y ≡ takeMx h x v
   unfolding takeMx
-  mx-covers e f y k = cc
+  mx-matches e f y k = cc
 
 pub ruleset version-laws = (version-had, version-bad, version-good, not-true, not-false, needs)
 
@@ -104,7 +103,7 @@ pub ruleset mode-laws = (mode-had, mode-bad, mode-good, not-true, not-false, nee
 
 pub ruleset age-laws = (age-had, age-bad, age-good, needs)
 
-pub ruleset mx-laws = (mx-bad, mx-listed, mx-covers, not-true, not-false, needs)
+pub ruleset mx-laws = (mx-bad, mx-listed, mx-matches, not-true, not-false, needs)
 
 -- `take_field`: s is what the call for the kind k gave
 module _ (h : List ℕ) (x : Bool) (r : Seen) (v : List ℕ) (k : Kind) (s : Step) where

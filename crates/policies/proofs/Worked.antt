@@ -9,7 +9,7 @@ use Rattle.lists.specs.Equal.{agree, sameByte, sameLetter}
 use Rattle.lists.specs.Span.{spanOf}
 use Rattle.lists.specs.Split.{indexOf, split, toFirst}
 use Rattle.lists.specs.Text.{text}
-use Rattle.names.specs.Name.{labelByte, isLabel, isName, isStarred, isWildcard, isPattern, matchesName}
+use Rattle.names.specs.Name.{labelByte, isLabel, isName, isStarred, isWildcard, isPattern, matchesName, someMatches}
 use Rattle.clock.specs.Clock.{cappedAge}
 use Rattle.fields.specs.Blank.{blank, unblanked}
 use Rattle.fields.specs.Name.{letterOrDigit, nameByte, isFieldName, hasName}
@@ -19,7 +19,7 @@ use Rattle.policies.specs.declared.Fault.{Fault}
 use Rattle.policies.specs.Texts.{utf8Tail, utf8Two, utf8Three, utf8Four, printable, isText, isValue}
 use Rattle.policies.specs.Lines.{lines, lineStart}
 use Rattle.policies.specs.Fields.{nameOf, valueOf, isLine, isNamed, firstNamed, patterns, isVersion, modeOf, isDigit, decimalAfter, ageOf, isThere, isFirst, causeAfter}
-use Rattle.policies.specs.Policy.{faultAt, orLater, firstFault, bodyFault, modeIn, ageIn, hasPatterns, complete, completed, judged, readBody, modeNumber, refused, answerTo, policyAnswer, patternsOf, someMatches}
+use Rattle.policies.specs.Policy.{faultAt, orLater, firstFault, bodyFault, modeIn, ageIn, hasPatterns, complete, completed, judged, readBody, modeNumber, refused, answerTo, policyAnswer, patternsOf}
 
 abbrev accepted : ℕ → ℕ → ℕ → PolicyAnswer
 accepted mode lifetime count = record { number = 7; mode = mode; lifetime = lifetime; «mx_count» = count }
@@ -63,7 +63,7 @@ unfolding utf8Tail utf8Two utf8Three utf8Four printable isText
 texts = refl
 
 -- hosts against the patterns of a body: a plain name in other letters, a wildcard, not two labels, no name
-matched : map (λ (host : List ℕ). someMatches host (patternsOf (text "mx: mail.example.com\r\nmx: *.example.net \nx: *.org")))
+matched : map (someMatches (patternsOf (text "mx: mail.example.com\r\nmx: *.example.net \nx: *.org")))
     (text "MAIL.example.com" ∷ text "a.example.net" ∷ text "a.b.example.net" ∷ text "example.net" ∷ text "a.org" ∷ text "*.example.net" ∷ [])
     ≡ true ∷ true ∷ false ∷ false ∷ false ∷ false ∷ []
 unfolding all any lowerOf agree sameByte sameLetter spanOf indexOf split toFirst labelByte isLabel isName isStarred isWildcard matchesName blank unblanked lines nameOf valueOf isNamed patterns patternsOf

@@ -5,10 +5,8 @@ use mathlib.Core.List.{List, [], _∷_}
 use mathlib.Core.Option.{Option, none, some}
 use lib.Dec.{eqb, ltb}
 use lib.ListN.{length}
-use Rattle.lists.specs.Bytes.{any}
 use Rattle.lists.specs.Text.{text}
-use Rattle.names.specs.Name.{matchesName}
-use Rattle.names.specs.Scan.{coversName}
+use Rattle.names.specs.Name.{someMatches}
 use Rattle.clock.specs.declared.Lifetime.{Lifetime}
 use Rattle.clock.specs.Clock.{lifetimeOf}
 use Rattle.policies.specs.declared.Mode.{Mode}
@@ -125,14 +123,6 @@ policyAnswer s = answerTo (readBody s)
 unfoldable pub patternsOf : List ℕ → List (List ℕ)
 patternsOf s = patterns (lines s)
 
--- one of the patterns covers the host; for a host that is a name, it matches it
-abbrev pub someCovers : List ℕ → List (List ℕ) → Bool
-someCovers host ps = any (λ (p : List ℕ). coversName p host) ps
-
--- the answer to a body, and whether it is accepted and one of its patterns covers the host
+-- the answer to a body, and whether it is accepted and one of its patterns matches the host
 unfoldable pub policyFor : (body host : List ℕ) → PolicyFor
-policyFor s host = record { answer = policyAnswer s; listed = someCovers host (patternsOf s) && eqb (policyAnswer s .number) 7 }
-
--- one of the patterns matches the host
-abbrev pub someMatches : List ℕ → List (List ℕ) → Bool
-someMatches host ps = any (λ (p : List ℕ). matchesName p host) ps
+policyFor s host = record { answer = policyAnswer s; listed = someMatches (patternsOf s) host && eqb (policyAnswer s .number) 7 }

@@ -8,8 +8,7 @@ use lib.ListN.{length, getD, take, drop}
 use Rattle.lists.specs.Equal.{sameBytes}
 use Rattle.lists.specs.Split.{indexOf}
 use Rattle.lists.specs.Text.{text}
-use Rattle.names.specs.Name.{isPattern}
-use Rattle.names.specs.Scan.{coversName}
+use Rattle.names.specs.Name.{isPattern, matchesName, someMatches}
 use Rattle.clock.specs.Clock.{cappedAge}
 use Rattle.policies.specs.declared.Mode.{Mode}
 use Rattle.policies.specs.declared.Mode.the-variants as M
@@ -33,7 +32,7 @@ use Rattle.policies.specs.declared.PolicyFor.{PolicyFor}
 use Rattle.policies.specs.Texts.{utf8Two, utf8Three, utf8Four, isText}
 use Rattle.policies.specs.Lines.{LF, CR, lines}
 use Rattle.policies.specs.Fields.{nameOf, valueOf, isLine, anyNamed, patterns, isVersion, modeOf, ageOf}
-use Rattle.policies.specs.Policy.{bodyFault, firstMode, firstAge, modeNumber, refused, someCovers}
+use Rattle.policies.specs.Policy.{bodyFault, firstMode, firstAge, modeNumber, refused}
 
 -- how many bytes the sequence of 2 to 4 has that begins with these bytes, and 0 where none does
 unfoldable pub sizeOf : ℕ → ℕ → ℕ → ℕ → ℕ
@@ -112,9 +111,9 @@ newAge r (some age) = Next (record { version = r .version; mode = r .mode; age =
 unfoldable pub takeAge : Seen → List ℕ → Step
 takeAge r v = cond (holdsAge (r .age)) (Next r) (newAge r (ageOf v))
 
--- the same of an mx: the host h is listed where it was (x), or where the pattern covers it
+-- the same of an mx: the host h is listed where it was (x), or where the pattern matches it
 unfoldable pub takeMx : (h : List ℕ) (x : Bool) → List ℕ → Step
-takeMx h x v = cond (isPattern v) (Pattern (x || coversName v h)) (Broken C.Mx)
+takeMx h x v = cond (isPattern v) (Pattern (x || matchesName v h)) (Broken C.Mx)
 
 -- the same of a field of each kind
 unfoldable pub takeField : (h : List ℕ) (x : Bool) → Seen → Kind → List ℕ → Step
@@ -155,9 +154,9 @@ unfoldable pub outcome : Seen → ℕ → Bool → Option Fault → Checked
 outcome r m x none = Read r m x
 outcome r m x (some fault) = Refused fault
 
--- the first fault of a body, or its fields, the number of its patterns and whether the host is listed: where x says so, or a pattern covers it
+-- the first fault of a body, or its fields, the number of its patterns and whether the host is listed: where x says so, or a pattern matches it
 unfoldable pub checked : (h : List ℕ) (x : Bool) → List ℕ → Checked
-checked h x s = outcome (seenIn (lines s)) (length (patterns (lines s))) (x || someCovers h (patterns (lines s))) (bodyFault s)
+checked h x s = outcome (seenIn (lines s)) (length (patterns (lines s))) (x || someMatches (patterns (lines s)) h) (bodyFault s)
 
 -- the answer to a policy with m patterns
 unfoldable pub accepted : Mode → ℕ → ℕ → PolicyAnswer

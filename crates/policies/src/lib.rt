@@ -7,12 +7,13 @@ ghost use Rattle.lists.specs.Bytes.{all};
 ghost use Rattle.lists.specs.Span.{spanOf};
 ghost use Rattle.lists.specs.Split.{indexOf};
 ghost use Rattle.lists.specs.Words.{eightAt, marks};
+ghost use Rattle.names.specs.Name.{someMatches};
 ghost use Rattle.fields.specs.declared.Field.{Field};
 ghost use Rattle.fields.specs.Name.{hasName, fieldAt};
 ghost use Rattle.policies.specs.Texts.{printable, isText};
 ghost use Rattle.policies.specs.declared.Checked.{Checked};
 ghost use Rattle.policies.specs.Fields.{modeOf, ageOf, valueOf};
-ghost use Rattle.policies.specs.Policy.{modeNumber, refused, policyAnswer, patternsOf, someCovers, policyFor};
+ghost use Rattle.policies.specs.Policy.{modeNumber, refused, policyAnswer, patternsOf, policyFor};
 ghost use Rattle.policies.specs.Reader.{strippedValue, textEnd, kindOf, heldMode, heldAge, holdsMode, modeHeld, takeVersion, takeMode, takeAge, takeMx, takeField, takeLine, turnAt, checked, enough, accepted, answerOf, forHost};
 use fields::Field;
 
@@ -46,7 +47,7 @@ pub struct PolicyAnswer {
     pub mx_count: u64,
 }
 
-// The answer to a policy body, and whether the body is accepted and one of its patterns covers a host.
+// The answer to a policy body, and whether the body is accepted and one of its patterns matches a host.
 pub struct PolicyFor {
     pub answer: PolicyAnswer,
     pub listed: bool,
@@ -292,8 +293,8 @@ fn take_mx(v: &[u8], host: &[u8], listed: bool) -> Step
     if listed {
         return Step::Pattern(true);
     }
-    let covered = names::covers(v, host);
-    Step::Pattern(covered)
+    let matched = names::matches(v, host);
+    Step::Pattern(matched)
 }
 
 // What a field does to the fields seen so far.
@@ -587,7 +588,7 @@ fn for_host(answer: PolicyAnswer, listed: bool) -> PolicyFor
 
 // Reads a policy body for a host. `known` as in `check`.
 fn read_body(body: &[u8], host: &[u8], known: bool) -> PolicyFor
-    ensures { λ r. ⌜ r ≡ forHost (policyAnswer (now (body .entry))) (known || someCovers (now (host .entry)) (patternsOf (now (body .entry)))) ⌝ }
+    ensures { λ r. ⌜ r ≡ forHost (policyAnswer (now (body .entry))) (known || someMatches (patternsOf (now (body .entry))) (now (host .entry))) ⌝ }
 {
     if LONGEST_BODY < body.len() {
         return for_host(refusal(TOO_LONG), false);
@@ -607,7 +608,7 @@ pub fn read_policy(body: &[u8]) -> PolicyAnswer
     read.answer
 }
 
-// The same, and whether the policy lists the host: whether one of its patterns covers the host, which for a name is whether it matches it.
+// The same, and whether the policy lists the host: whether one of its patterns matches it. A host that is no name is listed by none.
 pub fn read_policy_for(body: &[u8], host: &[u8]) -> PolicyFor
     ensures { λ r. ⌜ r ≡ policyFor (now (body .entry)) (now (host .entry)) ⌝ }
 {
