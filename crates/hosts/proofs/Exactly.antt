@@ -10,13 +10,14 @@ use Rattle.lists.specs.Bytes.{within}
 use Rattle.lists.proofs.Bools.{apart, and-left, and-right}
 use Rattle.names.specs.Name.{isName}
 use Rattle.policies.specs.Policy.{policyAnswer}
+use Rattle.verdicts.specs.Verdicts.{isVerdict}
 use Rattle.hosts.specs.declared.HostAnswer.{HostAnswer}
 use Rattle.hosts.specs.Facts.{Facts, later}
 use Rattle.hosts.specs.Tree.{Outcome, final, missing, walk, answersRead}
 use Rattle.hosts.specs.Rules.{rules}
 use Rattle.hosts.specs.Arguments.{Arguments, baseOf, factsOf}
 use Rattle.hosts.specs.Call.{codesFit, clocksFit, hostNamesFit, policyFits, answersFit, certificatesFit, Check, checks, refused, checked, told, walked, hostAnswer}
-use Rattle.hosts.specs.Demands.{isRefusal, isVerdict}
+use Rattle.hosts.specs.Demands.{isRefusal}
 use Rattle.hosts.proofs.Trees.{Comes, comes}
 use Rattle.hosts.proofs.Shape.{isQuestion, verdict-no-refusal, question-no-refusal, each-rules}
 use Rattle.hosts.proofs.Accepted.{policy-refusal}

@@ -4,7 +4,7 @@ use mathlib.Core.Path.{_≡_, refl, sym, _∙_, subst}
 use mathlib.Core.Bool.{Bool, true, false, not, cond, _&&_, _||_}
 use mathlib.Core.List.{List, [], _∷_}
 use mathlib.Core.Logic.{_⊎_, inl, inr}
-use Rattle.lists.specs.Bytes.{within, any}
+use Rattle.lists.specs.Bytes.{any}
 use Rattle.lists.proofs.Bools.{apart, by-cond}
 use Rattle.tlsa.specs.declared.Address.{Address}
 use Rattle.tlsa.specs.declared.Address.the-variants.{NoAliasSecure, NoAliasInsecure, AliasSecure, AliasFirstStepSecure, AliasFirstStepInsecure, Failed, NoAddress}
@@ -12,6 +12,7 @@ use Rattle.tlsa.specs.Address.{TlsaName, expandedName, hostName, questionOf, na
 use Rattle.tlsa.specs.Record.{usable}
 use Rattle.tlsa.specs.Answer.{Answer, secure, failed, secureRecords, readOf}
 use Rattle.certificates.specs.Checks.{references, danePasses}
+use Rattle.verdicts.specs.Verdicts.{isDelivery}
 use Rattle.hosts.specs.Facts.{Base, Handshake, established, Place, first, second, tlsa, Full, value}
 use Rattle.hosts.specs.Facts as F
 use Rattle.hosts.specs.Tree.{Rules, Question, verdictOf, reached}
@@ -23,12 +24,9 @@ use Rattle.hosts.proofs.Reading.{authentication-is, tls-is, by-answer}
 use Rattle.hosts.proofs.FullSets.{full-number}
 use Rattle.hosts.proofs.Second.{quiet-connect}
 
--- deliver: 1 to 5
-abbrev pub delivers : ℕ → Bool
-delivers n = within 1 5 n
-
 -- the last verdict delivers only where what was needed passes
-last-safe : (n e d s : Bool) → delivers (lastVerdict n e d s) ≡ true → (e ≡ true → s ≡ true) × (n ≡ true → d ≡ true)
+last-safe : (n e d s : Bool) → isDelivery (lastVerdict n e d s) ≡ true → (e ≡ true → s ≡ true) × (n ≡ true → d ≡ true)
+unfolding isDelivery
 last-safe true true true true h = (λ z. refl, λ z. refl)
 last-safe true true true false h = apart h
 last-safe true true false s h = apart h
@@ -39,7 +37,7 @@ last-safe false true d false h = apart h
 last-safe false false d s h = (λ z. apart z, λ z. apart z)
 
 -- without TLS there is delivery only where nothing was needed: DANE (n) needs TLS (t), and MTA-STS (e) does
-none-needed : (n t e : Bool) (v : ℕ) → delivers v ≡ false → (n ≡ true → t ≡ true) → delivers (cond (t || e) v 1) ≡ true → (e ≡ true → ⊥) × (n ≡ true → ⊥)
+none-needed : (n t e : Bool) (v : ℕ) → isDelivery v ≡ false → (n ≡ true → t ≡ true) → isDelivery (cond (t || e) v 1) ≡ true → (e ≡ true → ⊥) × (n ≡ true → ⊥)
 none-needed n true e v w k h = apart (sym w ∙ h)
 none-needed n false true v w k h = apart (sym w ∙ h)
 none-needed n false false v w k h = (λ z. apart z, λ z. apart (k z))
@@ -47,10 +45,10 @@ none-needed n false false v w k h = (λ z. apart z, λ z. apart (k z))
 module _ (b : Base) (f : Full) where
   -- what is needed and passes, by what the set taken says of DANE
   abbrev SafeWith : Taken → ℕ → Type 0
-  SafeWith s v = delivers v ≡ true → (needsMtaSts b ≡ true → mtaStsPasses b (f .presented) ≡ true) × (needsDane s ≡ true → takenPasses b s (f .presented) ≡ true)
+  SafeWith s v = isDelivery v ≡ true → (needsMtaSts b ≡ true → mtaStsPasses b (f .presented) ≡ true) × (needsDane s ≡ true → takenPasses b s (f .presented) ≡ true)
 
   module _ (s : Taken) (tls : needsDane s ≡ true → isTls (needs s) ≡ true) where
-    safe-none : (v : ℕ) → delivers v ≡ false → SafeWith s (cond (needsAnything b s) v 1)
+    safe-none : (v : ℕ) → isDelivery v ≡ false → SafeWith s (cond (needsAnything b s) v 1)
     safe-none v w h = let z = none-needed (needsDane s) (isTls (needs s)) (needsMtaSts b) v w tls h in (λ e. absurd (z .0 e), λ n. absurd (z .1 n))
 
     neither : (n e : Bool) → (n || e) ≡ false → (e ≡ true → ⊥) × (n ≡ true → ⊥)
@@ -59,12 +57,14 @@ module _ (b : Base) (f : Full) where
     neither false false h = (λ z. apart z, λ z. apart z)
 
     safe-shaken : (m : Handshake) → SafeWith s (verdictOf (shaken b s m) f)
+    unfolding isDelivery
     safe-shaken established = by-cond (λ (t : Rules). SafeWith s (verdictOf t f)) (needsDane s || needsMtaSts b)
         (λ e. last-safe (needsDane s) (needsMtaSts b) (takenPasses b s (f .presented)) (mtaStsPasses b (f .presented)))
         (λ e h. let z = neither (needsDane s) (needsMtaSts b) e in (λ x. absurd (z .0 x), λ x. absurd (z .1 x)))
     safe-shaken F.failed = safe-none 25 refl
 
     safe-connect : SafeWith s (verdictOf (connect b s) f)
+    unfolding isDelivery
     safe-connect = by-cond (λ (t : Rules). SafeWith s (verdictOf t f)) (f .offered) (λ e. safe-shaken (f .outcome)) (λ e. safe-none 24 refl)
 
   -- a question is one of some
@@ -87,7 +87,7 @@ module _ (b : Base) (f : Full) where
 
   -- of the answers l to the questions qs
   abbrev Safe : List Answer → List Question → Rules → Type 0
-  Safe l qs t = delivers (verdictOf t f) ≡ true → (needsMtaSts b ≡ true → mtaStsPasses b (f .presented) ≡ true) × (noneUsable l ≡ false → DanePassed qs)
+  Safe l qs t = isDelivery (verdictOf t f) ≡ true → (needsMtaSts b ≡ true → mtaStsPasses b (f .presented) ≡ true) × (noneUsable l ≡ false → DanePassed qs)
 
   safe-nothing : (qs : List Question) → Safe [] qs (connect b nothing)
   unfolding any
@@ -112,7 +112,7 @@ module _ (b : Base) (f : Full) where
   SafeAfter n p a t = value f (tlsa p) ≡ a → Safe (a ∷ answersAt (reached t f) f) (questionAt n p ∷ reached t f) t
 
   safe-heed : (n : TlsaName) (p : Place) (next : Rules) → Safe (answersAt (reached next f) f) (reached next f) next → (a : Answer) → SafeAfter n p a (heed b (domainOf b n) (secureRecords a) next (readOf a))
-  unfolding any
+  unfolding any isDelivery
   safe-heed n p next ih = by-answer b (domainOf b n) next (SafeAfter n p) (λ v h. apart h)
       (λ v h. (ih h .0, λ e. later-dane _ _ (ih h .1 e)))
       (λ v h. (ih h .0, λ e. later-dane _ _ (ih h .1 e)))
@@ -125,9 +125,11 @@ module _ (b : Base) (f : Full) where
   safe-seek p (n ∷ ns) = safe-heed n p (seek b second ns) (safe-seek second ns) (value f (tlsa p)) refl
 
   safe-names : (ns : List TlsaName) → Safe (answersAt (reached (start b (names ns)) f) f) (reached (start b (names ns)) f) (start b (names ns))
+  unfolding isDelivery
   safe-names ns = by-cond (λ (t : Rules). Safe (answersAt (reached t f) f) (reached t f) t) (needsMtaSts b && not (isListed b)) (λ e h. apart h) (λ e. safe-seek first ns)
 
   safe-start : (a : Address) → Safe (answersAt (reached (start b (namesToTry a)) f) f) (reached (start b (namesToTry a)) f) (start b (namesToTry a))
+  unfolding isDelivery
   safe-start NoAliasSecure = safe-names (hostName ∷ [])
   safe-start NoAliasInsecure = safe-names []
   safe-start AliasSecure = safe-names (expandedName ∷ hostName ∷ [])
@@ -141,6 +143,6 @@ module _ (b : Base) (f : Full) where
   safe-rules = safe-start (b .address)
 
 -- whatever is delivered: under a live enforce policy the MTA-STS check passes, and where the rules read a usable secure record, the set that they take passes DANE, with the name at which it was asked for as the TLSA base domain
-pub delivers-safely : (a : Arguments) → IsFull a → delivers (hostAnswer a .number) ≡ true
+pub delivers-safely : (a : Arguments) → IsFull a → isDelivery (hostAnswer a .number) ≡ true
     → (needsMtaSts (baseOf a) ≡ true → mtaStsPasses (baseOf a) (fullOf a .presented) ≡ true) × (noneUsable (reachedAnswers (baseOf a) (fullOf a)) ≡ false → DanePassed (baseOf a) (fullOf a) (reached (rules (baseOf a)) (fullOf a)))
-delivers-safely a h d = safe-rules (baseOf a) (fullOf a) (subst (λ (n : ℕ). delivers n ≡ true) (full-number a h) d)
+delivers-safely a h d = safe-rules (baseOf a) (fullOf a) (subst (λ (n : ℕ). isDelivery n ≡ true) (full-number a h) d)

@@ -12,11 +12,13 @@ use Rattle.tlsa.specs.declared.Address.the-variants.{NoAliasSecure, NoAliasInse
 use Rattle.tlsa.specs.Address.{TlsaName, expandedName, hostName, questionOf, NamesOrVerdict, names, namesToTry}
 use Rattle.tlsa.specs.Address as A
 use Rattle.tlsa.specs.Answer.{Answer}
+use Rattle.verdicts.specs.Verdicts.{isDelivery, isNextHost, isVerdict}
+use Rattle.verdicts.proofs.Ranges.{verdict-no-middle, verdict-below}
 use Rattle.hosts.specs.Facts.{Base, Handshake, established, failed, Place, first, second, Facts}
 use Rattle.hosts.specs.Tree.{Rules, verdict, walk, answersRead, final}
 use Rattle.hosts.specs.Rules.{needsMtaSts, isListed, mtaStsPasses, Taken, nothing, set, needsDane, needsAnything, takenPasses, lastVerdict, shaken, connect, domainOf, seek, start, rules}
-use Rattle.hosts.specs.Demands.{isRefusal, isVerdict}
-use Rattle.lists.proofs.Bools.{apart, and-left, and-right, by-cond, or-elim}
+use Rattle.hosts.specs.Demands.{isRefusal}
+use Rattle.lists.proofs.Bools.{apart, and-left, and-right, by-cond}
 use borrow.Author.Tests.{not-true, leb-true}
 use Rattle.hosts.proofs.Trees.{Each, each-more, Comes, comes, Most, most-read}
 use Rattle.hosts.proofs.Reading.{by-answer}
@@ -27,15 +29,10 @@ isQuestion n = within 10 14 n
 
 -- a question, a verdict and a refusal are three kinds of number
 pub question-no-verdict : (n : ℕ) → isQuestion n ≡ true → isVerdict n ≡ true → ⊥
-question-no-verdict n q v =
-    let l = leb-true 10 n (and-left (leb 10 n) (leb n 14) q) in
-    let u = leb-true n 14 (and-right (leb 10 n) (leb n 14) q) in
-    or-elim (within 1 5 n) (within 20 27 n) (λ t. omega (arith, l, leb-true n 5 (and-right (leb 1 n) (leb n 5) t))) (λ t. omega (arith, u, leb-true 20 n (and-left (leb 20 n) (leb n 27) t))) v
+question-no-verdict n q v = verdict-no-middle n v (omega (arith, leb-true 10 n (and-left (leb 10 n) (leb n 14) q))) (omega (arith, leb-true n 14 (and-right (leb 10 n) (leb n 14) q)))
 
 pub verdict-no-refusal : (n : ℕ) → isVerdict n ≡ true → isRefusal n ≡ true → ⊥
-verdict-no-refusal n v r =
-    let l = leb-true 40 n r in
-    or-elim (within 1 5 n) (within 20 27 n) (λ t. omega (arith, l, leb-true n 5 (and-right (leb 1 n) (leb n 5) t))) (λ t. omega (arith, l, leb-true n 27 (and-right (leb 20 n) (leb n 27) t))) v
+verdict-no-refusal n v r = omega (arith, verdict-below n v, leb-true 40 n r)
 
 pub question-no-refusal : (n : ℕ) → isQuestion n ≡ true → isRefusal n ≡ true → ⊥
 question-no-refusal n q r = omega (arith, leb-true n 14 (and-right (leb 10 n) (leb n 14) q), leb-true 40 n r)
@@ -49,6 +46,7 @@ abbrev pub isSought : ℕ → Bool
 isSought n = isVerdict n && not (isEarly n)
 
 last-sought : (n e d s : Bool) → isSought (lastVerdict n e d s) ≡ true
+unfolding isDelivery isNextHost
 last-sought true true true true = refl
 last-sought true true true false = refl
 last-sought true true false s = refl
@@ -67,6 +65,7 @@ module _ (b : Base) where
   sought-cond false v w h k = k
 
   sought-connect : (s : Taken) → Sought (connect b s)
+  unfolding isDelivery isNextHost
   sought-connect s = (refl, λ o. by-cond Sought o (λ e. (refl, sought-shaken)) (λ e. sought-cond (needsAnything b s) 24 1 refl refl))
     where
       sought-shaken : (m : Handshake) → Sought (shaken b s m)
@@ -78,6 +77,7 @@ module _ (b : Base) where
   question-is hostName = refl
 
   pub sought-seek : (p : Place) (ns : List TlsaName) → Sought (seek b p ns)
+  unfolding isDelivery isNextHost
   sought-seek p [] = sought-connect nothing
   sought-seek p (n ∷ ns) =
       let next : Sought (seek b second ns) = sought-seek second ns in
@@ -127,9 +127,11 @@ module _ (b : Base) where
   each-seek ns = each-more isSought isVerdict isQuestion (λ n h. and-left (isVerdict n) (not (isEarly n)) h) (seek b first ns) (sought-seek first ns)
 
   each-names : (ns : List TlsaName) → Each isVerdict isQuestion (start b (names ns))
+  unfolding isDelivery isNextHost
   each-names ns = by-cond (Each isVerdict isQuestion) (needsMtaSts b && not (isListed b)) (λ e. refl) (λ e. each-seek ns)
 
   each-start : (a : Address) → Each isVerdict isQuestion (start b (namesToTry a))
+  unfolding isDelivery isNextHost
   each-start NoAliasSecure = each-names (hostName ∷ [])
   each-start NoAliasInsecure = each-names []
   each-start AliasSecure = each-names (expandedName ∷ hostName ∷ [])

@@ -7,13 +7,14 @@ use lib.Dec.{T, eqb, leb}
 use borrow.Author.Tests.{leb-true, eqb-true}
 use Rattle.lists.specs.Bytes.{within}
 use Rattle.lists.proofs.Bools.{apart, and-right, holds, by-cond, or-left, or-right, or-elim}
+use Rattle.verdicts.specs.Verdicts.{isDelivery, isNextHost, isVerdict}
 use Rattle.hosts.specs.declared.HostAnswer.{HostAnswer}
 use Rattle.hosts.specs.Facts.{Facts, later}
 use Rattle.hosts.specs.Tree.{Outcome, final, missing, walk, answersRead}
 use Rattle.hosts.specs.Rules.{rules}
 use Rattle.hosts.specs.Arguments.{Arguments, factsOf}
 use Rattle.hosts.specs.Call.{refused, told, walked, hostAnswer}
-use Rattle.hosts.specs.Demands.{isRefusal, isVerdict}
+use Rattle.hosts.specs.Demands.{isRefusal}
 use Rattle.hosts.proofs.Trees.{Comes, comes}
 use Rattle.hosts.proofs.Shape.{isQuestion, verdict-no-refusal, question-no-refusal, isEarly, each-rules, at-most-two, unread}
 use Rattle.hosts.proofs.Accepted.{by-answer-of}
@@ -54,6 +55,7 @@ in-table a = by-kind (λ (r : HostAnswer). isAnswer (r .number) ≡ true) a
 
 -- no answer is zero
 pub never-zero : (a : Arguments) → hostAnswer a .number ≡ 0 → ⊥
+unfolding isDelivery isNextHost
 never-zero a e = apart (sym (ap isAnswer e) ∙ in-table a)
 
 -- a question is none of 20, 21 and 23

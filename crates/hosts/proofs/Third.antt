@@ -5,6 +5,7 @@ use mathlib.Core.Option.{some}
 use lib.Dec.{T}
 use Rattle.lists.proofs.Bools.{holds, by-true}
 use Rattle.tlsa.specs.Answer.{absent}
+use Rattle.verdicts.specs.Verdicts.{isVerdict}
 use Rattle.hosts.specs.declared.HostAnswer.{HostAnswer}
 use Rattle.hosts.specs.Facts.{Base, Fact, tlsa, first, second, starttls, handshake, certificates, Value, Facts, Full, given, value, later}
 use Rattle.hosts.specs.Facts as F
@@ -12,7 +13,7 @@ use Rattle.hosts.specs.Tree.{Rules, Outcome, final, missing, walk, answe
 use Rattle.hosts.specs.Rules.{rules}
 use Rattle.hosts.specs.Arguments.{Arguments, baseOf, factsOf, presentedIn}
 use Rattle.hosts.specs.Call.{refused, told, walked, hostAnswer}
-use Rattle.hosts.specs.Demands.{isRefusal, isVerdict, IsPassed, Keeps, orElse, fullOf, firstMissing, OneVerdict, Settled, Demand3}
+use Rattle.hosts.specs.Demands.{isRefusal, IsPassed, Keeps, orElse, fullOf, firstMissing, OneVerdict, Settled, Demand3}
 use Rattle.hosts.proofs.Trees.{KeptBy, Says, says, counted, Comes, comes, Two, Differ, Leaves, leaves}
 use Rattle.hosts.proofs.Values.{Ok, setOf, set-ok, nobody, nobody-ok}
 use Rattle.hosts.proofs.Shape.{isQuestion, question-no-verdict, each-rules, at-most-two}

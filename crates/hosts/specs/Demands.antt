@@ -6,11 +6,12 @@ use mathlib.Core.Bool.{Bool, true, false, not, cond, _&&_, _||_}
 use mathlib.Core.List.{List, [], _∷_}
 use mathlib.Core.Option.{Option, none, some}
 use lib.Dec.{T, eqb, leb, ltb}
-use Rattle.lists.specs.Bytes.{within, all, any}
+use Rattle.lists.specs.Bytes.{all, any}
 use Rattle.tlsa.specs.declared.Address.{Address}
 use Rattle.tlsa.specs.declared.Address.the-variants.{NoAliasSecure, NoAliasInsecure, AliasSecure, AliasFirstStepSecure, AliasFirstStepInsecure, Failed, NoAddress}
 use Rattle.tlsa.specs.Record.{short, usable}
 use Rattle.tlsa.specs.Answer.{Answer, absent, isFailed, secureRecords}
+use Rattle.verdicts.specs.Verdicts.{isVerdict}
 use Rattle.hosts.specs.declared.HostAnswer.{HostAnswer}
 use Rattle.hosts.specs.Facts.{Base, Handshake, established, failed, first, second, Fact, tlsa, starttls, handshake, certificates, Value, Facts, Full, given, value, isGiven}
 use Rattle.hosts.specs.Tree.{Question, reached, isTlsa}
@@ -19,12 +20,9 @@ use Rattle.hosts.specs.Arguments.{Arguments, baseOf, presentedIn, factsO
 use Rattle.hosts.specs.Call.{hostAnswer}
 use Rattle.hosts.specs.Verdicts.{testsOf, conditions, holding, countOf}
 
--- the kinds of answer: a refusal, 40 to 67; a verdict, 1 to 5 or 20 to 27
+-- a refusal, 40 to 67
 abbrev pub isRefusal : ℕ → Bool
 isRefusal n = leb 40 n
-
-abbrev pub isVerdict : ℕ → Bool
-isVerdict n = within 1 5 n || within 20 27 n
 
 -- full sets
 

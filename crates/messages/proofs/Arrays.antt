@@ -11,8 +11,9 @@ use lib.Seq.{take-suc, take-suc-set, take-length}
 use borrow.Author.Needs.{needs}
 use borrow.Author.Tests.{le-leb, lt-leb, ne-eqb}
 use Rattle.lists.specs.Bytes.{all}
+use Rattle.verdicts.proofs.Ranges.{no-verdict-from}
 use Rattle.messages.specs.declared.MessageAnswer.{MessageAnswer}
-use Rattle.messages.specs.Hosts.{isPreference, isNextHost, isHostVerdict, isHostList, noHost, messageAnswer, hostsAnswer}
+use Rattle.messages.specs.Hosts.{isPreference, isHostVerdict, isHostList, noHost, messageAnswer, hostsAnswer}
 
 -- one number that fails a test
 pub all-fails : (p : ℕ → Bool) (ns : List ℕ) (k : ℕ) → k < length ns → p (getD ns k 0) ≡ false → all p ns ≡ false
@@ -51,8 +52,8 @@ module _ (ps vs : List ℕ) (k count : ℕ) (counted : count ≡ length ps) (cou
     read-preference e o = refused ∙ sym (no-preference ps vs (all-fails isPreference ps k (omega arith) (high e o)))
 
     other : n ≡ getD vs k 0 → 255 < n → isHostVerdict (getD vs k 0) ≡ false
-    unfolding isHostVerdict isNextHost
-    other e o = rw (ne-eqb (getD vs k 0) 9 (λ q. omega arith), lt-leb (getD vs k 0) 5 (omega arith), lt-leb (getD vs k 0) 27 (omega arith), and-false (leb 1 (getD vs k 0))) (and-false (leb 20 (getD vs k 0)))
+    unfolding isHostVerdict
+    other e o = rw (ne-eqb (getD vs k 0) 9 (λ q. omega arith)) (no-verdict-from (getD vs k 0) (omega arith))
 
     pub read-verdict : n ≡ getD vs k 0 → 255 < n → r ≡ messageAnswer ps vs
     read-verdict e o = refused ∙ sym (no-verdict ps vs (all-fails isHostVerdict vs k (omega arith) (other e o)))

@@ -9,10 +9,11 @@ use lib.ListN.{length, getD, take}
 use borrow.Author.Tests.{lt-ltb, eq-eqb, ne-eqb, ltb-true, eqb-true}
 use Rattle.lists.specs.Bytes.{within, all}
 use Rattle.numbers.specs.Numbers.{numbers, isWhole}
+use Rattle.verdicts.specs.Verdicts.{isDelivery, isNextHost}
 use Rattle.messages.specs.declared.MessageAnswer.{MessageAnswer}
 use Rattle.messages.specs.declared.MxLookup.{MxLookup}
 use Rattle.messages.specs.declared.MxLookup.the-variants.{Answered, Failed}
-use Rattle.messages.specs.Hosts.{Host, isPreference, isNextHost, isHostVerdict, isHostList, hostsFrom, hostsOf, inOrder, noHost, answerOf, decided, messageAnswer, hostsAnswer, listsAnswer, nextHost}
+use Rattle.messages.specs.Hosts.{Host, isPreference, isHostVerdict, isHostList, hostsFrom, hostsOf, inOrder, noHost, decidedAnswer, decided, messageAnswer, hostsAnswer, listsAnswer, nextHost}
 use Rattle.messages.specs.Order.{comesBefore, isOrdered, hostAt, Decides, isDecision, Outcome, isMessageAnswer}
 use Rattle.messages.specs.Order.Outcome.{refused, none, one}
 use Rattle.lists.proofs.Bools.{apart, and-left, and-right}
@@ -30,7 +31,7 @@ passes h x = not (comesBefore x h) || isNextHost (x .verdict)
 -- the first host of an ordered list that is not a "next host"
 record Found (xs : List Host) : Type 0 where
   host : Host
-  is : decided xs ≡ answerOf host
+  is : decided xs ≡ decidedAnswer host
   stops : isNextHost (host .verdict) ≡ false
   among : (p : Host → Bool) → all p xs ≡ true → p host ≡ true
   first : all (passes host) xs ≡ true
@@ -80,9 +81,9 @@ order-verdicts q ps vs e = all-inOrder (verdictIs q) (hostsOf ps vs) ∙ all-ver
 -- a host verdict that is not a "next host" gives 8 or 1 to 5
 decisive-number : (v : ℕ) → isHostVerdict v ≡ true → isNextHost v ≡ false → isDecision (cond (eqb v 9) 8 v) ≡ true
 unfolding isHostVerdict isDecision
-decisive-number v h n = go (eqb v 9) (within 1 5 v) refl (isNextHost v) n h
+decisive-number v h n = go (eqb v 9) (isDelivery v) refl (isNextHost v) n h
   where
-    go : (t u : Bool) → within 1 5 v ≡ u → (w : Bool) → w ≡ false → (t || u || w) ≡ true → (eqb (cond t 8 v) 8 || within 1 5 (cond t 8 v)) ≡ true
+    go : (t u : Bool) → isDelivery v ≡ u → (w : Bool) → w ≡ false → (t || (u || w)) ≡ true → (eqb (cond t 8 v) 8 || isDelivery (cond t 8 v)) ≡ true
     go true u e w f k = refl
     go false true e w f k = rw (e, or-true)
     go false false e w f k = apart (sym f ∙ k)
@@ -107,8 +108,8 @@ module _ (ps vs : List ℕ) (even : length vs ≡ length ps) where
       let v : getD vs (h .position) 0 ≡ h .verdict = eqb-true (getD vs (h .position) 0) (h .verdict) (and-right (eqb (getD ps (h .position) 0) (h .preference)) (eqb (getD vs (h .position) 0) (h .verdict)) rest) in
       (ltb-true (h .position) (length ps) (and-left (ltb (h .position) (length ps)) (eqb (getD ps (h .position) 0) (h .preference) && eqb (getD vs (h .position) 0) (h .verdict)) a), rw (p, v))
 
-  decides-at : (k : ℕ) → k < length ps → isNextHost (getD vs k 0) ≡ false → all (passes (hostAt ps vs k)) (hostsOf ps vs) ≡ true → Decides ps vs (answerOf (hostAt ps vs k))
-  unfolding answerOf
+  decides-at : (k : ℕ) → k < length ps → isNextHost (getD vs k 0) ≡ false → all (passes (hostAt ps vs k)) (hostsOf ps vs) ≡ true → Decides ps vs (decidedAnswer (hostAt ps vs k))
+  unfolding decidedAnswer
   decides-at k l s f =
       record {
         inside = l;
@@ -117,14 +118,14 @@ module _ (ps vs : List ℕ) (even : length vs ≡ length ps) where
         first = λ i m b. or-right (comesBefore (hostAt ps vs i) (hostAt ps vs k)) (isNextHost (getD vs i 0)) (each-host (passes (hostAt ps vs k)) ps vs even f i m) b;
       }
 
-  decides-host : (h : Host) → isAt ps vs h ≡ true → isNextHost (h .verdict) ≡ false → all (passes h) (hostsOf ps vs) ≡ true → Decides ps vs (answerOf h)
+  decides-host : (h : Host) → isAt ps vs h ≡ true → isNextHost (h .verdict) ≡ false → all (passes h) (hostsOf ps vs) ≡ true → Decides ps vs (decidedAnswer h)
   decides-host h a s f =
       let at = at-position h a in
-      subst (λ (x : Host). Decides ps vs (answerOf x)) (sym (at .1))
+      subst (λ (x : Host). Decides ps vs (decidedAnswer x)) (sym (at .1))
       (decides-at (h .position) (at .0) (subst (λ (x : Host). isNextHost (x .verdict) ≡ false) (at .1) s) (subst (λ (x : Host). all (passes x) (hostsOf ps vs) ≡ true) (at .1) f))
 
   one-found : isHostList ps vs ≡ true → all isHostVerdict vs ≡ true → all isNextHost vs ≡ false → Outcome ps vs (decided (inOrder (hostsOf ps vs)))
-  unfolding answerOf
+  unfolding decidedAnswer
   one-found l q n =
       let f : Found (inOrder (hostsOf ps vs)) = found (inOrder (hostsOf ps vs)) (ordered ps vs) (order-verdicts isNextHost ps vs even ∙ n) in
       let v : isHostVerdict (f .host .verdict) ≡ true = f .among (verdictIs isHostVerdict) (order-verdicts isHostVerdict ps vs even ∙ q) in
@@ -159,7 +160,7 @@ not-outside n m h k = ne-eqb n m (λ e. apart (sym k ∙ rw e at h))
 
 -- 63 exactly where the lists are no list of hosts
 pub refused-when : (ps vs : List ℕ) → eqb (messageAnswer ps vs .number) 63 ≡ not (isHostList ps vs)
-unfolding noHost isDecision
+unfolding noHost isDecision isDelivery
 refused-when ps vs = go (messageAnswer ps vs) (outcome ps vs)
   where
     go : (r : MessageAnswer) → Outcome ps vs r → eqb (r .number) 63 ≡ not (isHostList ps vs)
@@ -169,7 +170,7 @@ refused-when ps vs = go (messageAnswer ps vs) (outcome ps vs)
 
 -- 31 exactly where they are one, and every verdict is a "next host"
 pub none-when : (ps vs : List ℕ) → eqb (messageAnswer ps vs .number) 31 ≡ (isHostList ps vs && all isNextHost vs)
-unfolding noHost isDecision
+unfolding noHost isDecision isDelivery
 none-when ps vs = go (messageAnswer ps vs) (outcome ps vs)
   where
     go : (r : MessageAnswer) → Outcome ps vs r → eqb (r .number) 31 ≡ (isHostList ps vs && all isNextHost vs)
@@ -179,7 +180,7 @@ none-when ps vs = go (messageAnswer ps vs) (outcome ps vs)
 
 -- 8 or 1 to 5 exactly where they are one, and some verdict is not a "next host"
 pub one-when : (ps vs : List ℕ) → isDecision (messageAnswer ps vs .number) ≡ (isHostList ps vs && not (all isNextHost vs))
-unfolding noHost isDecision
+unfolding noHost isDecision isDelivery
 one-when ps vs = go (messageAnswer ps vs) (outcome ps vs)
   where
     go : (r : MessageAnswer) → Outcome ps vs r → isDecision (r .number) ≡ (isHostList ps vs && not (all isNextHost vs))
@@ -189,7 +190,7 @@ one-when ps vs = go (messageAnswer ps vs) (outcome ps vs)
 
 -- where the answer is 8 or 1 to 5, the host at its position decides
 pub decides : (ps vs : List ℕ) → isDecision (messageAnswer ps vs .number) ≡ true → Decides ps vs (messageAnswer ps vs)
-unfolding noHost isDecision
+unfolding noHost isDecision isDelivery
 decides ps vs h = go (messageAnswer ps vs) (outcome ps vs) h
   where
     go : (r : MessageAnswer) → Outcome ps vs r → isDecision (r .number) ≡ true → Decides ps vs r
@@ -204,7 +205,7 @@ decides-once ps vs r s f g =
     let b = before-fails (hostAt ps vs (s .position)) (hostAt ps vs (r .position)) (not-first s r g f) in
     let p : getD ps (r .position) 0 ≡ getD ps (s .position) 0 = omega (arith, a .0, b .0) in
     let k : r .position ≡ s .position = omega (arith, a .1 p, b .1 (sym p)) in
-    f .answer ∙ ap (λ (i : ℕ). answerOf (hostAt ps vs i)) k ∙ sym (g .answer)
+    f .answer ∙ ap (λ (i : ℕ). decidedAnswer (hostAt ps vs i)) k ∙ sym (g .answer)
   where
     go : (r s : MessageAnswer) → Decides ps vs r → Decides ps vs s → (t : Bool) → comesBefore (hostAt ps vs (r .position)) (hostAt ps vs (s .position)) ≡ t → t ≡ false
     go r s f g true e = sym (g .first (r .position) (f .inside) e) ∙ f .decisive
@@ -215,7 +216,7 @@ decides-once ps vs r s f g =
 
 -- every answer stands in the table
 message-table : (ps vs : List ℕ) → isMessageAnswer (messageAnswer ps vs) ≡ true
-unfolding isMessageAnswer noHost isDecision
+unfolding isMessageAnswer noHost isDecision isDelivery
 message-table ps vs = go (messageAnswer ps vs) (outcome ps vs)
   where
     go : (r : MessageAnswer) → Outcome ps vs r → isMessageAnswer r ≡ true
@@ -224,7 +225,7 @@ message-table ps vs = go (messageAnswer ps vs) (outcome ps vs)
     go r (one l n d f) = rw d
 
 refusal-table : (t : Bool) (r : MessageAnswer) → isMessageAnswer r ≡ true → isMessageAnswer (cond t r (noHost 63)) ≡ true
-unfolding isMessageAnswer noHost isDecision
+unfolding isMessageAnswer noHost isDecision isDelivery
 refusal-table true r h = h
 refusal-table false r h = refl
 
@@ -233,13 +234,13 @@ unfolding hostsAnswer
 hosts-table count ps vs = refusal-table (leb count 32) (messageAnswer (take count ps) (take count vs)) (message-table (take count ps) (take count vs))
 
 pub next-table : (l : MxLookup) (ps vs : List ℕ) → isMessageAnswer (nextHost l ps vs) ≡ true
-unfolding isMessageAnswer noHost isDecision nextHost listsAnswer
+unfolding isMessageAnswer noHost isDecision isDelivery nextHost listsAnswer
 next-table Failed ps vs = refl
 next-table Answered ps vs = refusal-table (isWhole ps && isWhole vs) (messageAnswer (numbers ps) (numbers vs)) (message-table (numbers ps) (numbers vs))
 
 -- no answer has the number 0
 pub table-number : (r : MessageAnswer) → isMessageAnswer r ≡ true → r .number ≡ 0 → ⊥
-unfolding isMessageAnswer isDecision
+unfolding isMessageAnswer isDecision isDelivery
 table-number r h e = apart (rw e at h)
 
 -- the position is 0 under every other number than 8 and 1 to 5

@@ -11,10 +11,11 @@ use lib.Seq.{length-take-le, getD-take}
 use borrow.Author.Needs.{needs}
 use borrow.Author.Tests.{not-true, not-false, le-leb, leb-true, eq-eqb}
 use Rattle.lists.specs.Bytes.{all}
+use Rattle.verdicts.specs.Verdicts.{isNextHost}
 use Rattle.messages.specs.declared.MessageAnswer.{MessageAnswer}
 use Rattle.messages.specs.declared.Decider.{Decider}
 use Rattle.messages.specs.declared.Decider.the-variants.{Nobody}
-use Rattle.messages.specs.Hosts.{Host, isPreference, isNextHost, isHostVerdict, isHostList, hostsFrom, hostsOf, insert, inOrder, noHost, answerOf, decided, messageAnswer}
+use Rattle.messages.specs.Hosts.{Host, isPreference, isHostVerdict, isHostList, hostsFrom, hostsOf, insert, inOrder, noHost, decidedAnswer, decided, messageAnswer}
 use Rattle.messages.specs.Order.{comesBefore, isOrdered}
 use Rattle.messages.specs.Search.{decider, before, withHost, deciderOf, decidedBy}
 use Rattle.lists.proofs.Bools.{and-left, and-right, and-intro}
@@ -34,7 +35,7 @@ unfolding decided firstIn decidedBy
 first-answers [] = refl
 first-answers (x ∷ xs) = go (first-answers xs) (isNextHost (x .verdict))
   where
-    go : decided xs ≡ decidedBy (firstIn xs) → (t : Bool) → cond t (decided xs) (answerOf x) ≡ decidedBy (cond t (firstIn xs) (decider x))
+    go : decided xs ≡ decidedBy (firstIn xs) → (t : Bool) → cond t (decided xs) (decidedAnswer x) ≡ decidedBy (cond t (firstIn xs) (decider x))
     go ih true = ih
     go ih false = refl
 

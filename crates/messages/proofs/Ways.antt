@@ -8,14 +8,14 @@ use lib.Dec.{eqb, leb}
 use lib.ListN.{length, take}
 use borrow.Author.Needs.{needs}
 use borrow.Author.Tests.{not-true, not-false, le-leb, lt-leb, eq-eqb, ne-eqb}
-use Rattle.lists.specs.Bytes.{within}
 use Rattle.numbers.specs.Numbers.{numbers, isWhole}
+use Rattle.verdicts.specs.Verdicts.{isDelivery, isNextHost}
 use Rattle.messages.specs.declared.MessageAnswer.{MessageAnswer}
 use Rattle.messages.specs.declared.MxLookup.{MxLookup}
 use Rattle.messages.specs.declared.MxLookup.the-variants.{Answered, Failed}
 use Rattle.messages.specs.declared.Decider.{Decider}
 use Rattle.messages.specs.declared.Decider.the-variants.{Is, Nobody}
-use Rattle.messages.specs.Hosts.{isNextHost, isHostVerdict, isHostList, noHost, answerOf, messageAnswer, hostsAnswer, listsAnswer, nextHost}
+use Rattle.messages.specs.Hosts.{isHostVerdict, isHostList, noHost, decidedAnswer, messageAnswer, hostsAnswer, listsAnswer, nextHost}
 use Rattle.messages.specs.Search.{before, withHost, decidedBy}
 
 -- `is_host_verdict`
@@ -24,25 +24,21 @@ module _ (v : ℕ) where
   unfolding isHostVerdict
   verdict-nine h = cc
 
-  pub verdict-zero : v ≡ 0 → false ≡ isHostVerdict v
-  unfolding isHostVerdict isNextHost
-  verdict-zero h = cc
-
   module _ (r : Bool) (gave : r ≡ isNextHost v) where
     pub verdict-next : r ≡ true → true ≡ isHostVerdict v
     unfolding isHostVerdict
-    verdict-next t = let n : isNextHost v ≡ true = sym gave ∙ t in rw n (go (eqb v 9) (within 1 5 v))
+    verdict-next t = let n : isNextHost v ≡ true = sym gave ∙ t in rw n (go (eqb v 9) (isDelivery v))
       where
-        go : (a b : Bool) → true ≡ (a || b || true)
+        go : (a b : Bool) → true ≡ (a || (b || true))
         go true b = refl
         go false true = refl
         go false false = refl
 
-    pub verdict-final : r ≡ false → (v ≡ 9 → ⊥) → (v ≡ 0 → ⊥) → leb v 5 ≡ isHostVerdict v
+    pub verdict-final : r ≡ false → (v ≡ 9 → ⊥) → (d : Bool) → d ≡ isDelivery v → d ≡ isHostVerdict v
     unfolding isHostVerdict
-    verdict-final f n z = let x : isNextHost v ≡ false = sym gave ∙ f in rw (ne-eqb v 9 n, le-leb 1 v (omega arith), x) (sym (or-false (leb v 5)))
+    verdict-final f n d e = let x : isNextHost v ≡ false = sym gave ∙ f in rw (ne-eqb v 9 n, x) (e ∙ sym (or-false (isDelivery v)))
 
-pub ruleset verdict-laws = (verdict-nine, verdict-zero, verdict-final, verdict-next, needs)
+pub ruleset verdict-laws = (verdict-nine, verdict-final, verdict-next, needs)
 
 -- `with_host`: r is what `is_next_host` gave of the host's verdict
 module _ (p v k : ℕ) (d : Decider) (r : Bool) (gave : r ≡ isNextHost v) where
@@ -73,11 +69,11 @@ module _ (d : Decider) where
 
   module _ (p v k : ℕ) (e : d ≡ Is p v k) where
     pub decided-nine : v ≡ 9 → _≡_ {A = MessageAnswer} (record { number = 8; position = k }) (decidedBy d)
-    unfolding decidedBy answerOf
+    unfolding decidedBy decidedAnswer
     decided-nine n = rw (e, eq-eqb v 9 n)
 
     pub decided-final : (v ≡ 9 → ⊥) → _≡_ {A = MessageAnswer} (record { number = v; position = k }) (decidedBy d)
-    unfolding decidedBy answerOf
+    unfolding decidedBy decidedAnswer
     decided-final n = rw (e, ne-eqb v 9 n)
 
 pub ruleset decided-laws = (decided-none, decided-nine, decided-final, needs)

@@ -6,6 +6,7 @@ use lib.Dec.{eqb, leb}
 use lib.ListN.{length, take}
 use Rattle.lists.specs.Bytes.{within, all}
 use Rattle.numbers.specs.Numbers.{numbers, isWhole}
+use Rattle.verdicts.specs.Verdicts.{isNextHost, isVerdict}
 use Rattle.messages.specs.declared.MessageAnswer.{MessageAnswer}
 use Rattle.messages.specs.declared.MxLookup.{MxLookup}
 use Rattle.messages.specs.declared.MxLookup.the-variants.{Answered, Failed}
@@ -14,13 +15,9 @@ use Rattle.messages.specs.declared.MxLookup.the-variants.{Answered, Fail
 unfoldable pub isPreference : ℕ → Bool
 isPreference p = leb p 65535
 
--- the verdict says "next host": 20 to 27
-unfoldable pub isNextHost : ℕ → Bool
-isNextHost v = within 20 27 v
-
--- a host verdict: 9, 1 to 5, or 20 to 27
+-- a host verdict: 9 (not tried yet), 1 to 5, or 20 to 27
 unfoldable pub isHostVerdict : ℕ → Bool
-isHostVerdict v = eqb v 9 || within 1 5 v || isNextHost v
+isHostVerdict v = eqb v 9 || isVerdict v
 
 -- a host list that 63 does not refuse: neither empty nor over 32, lists of equal length, no preference over 65,535, and no number that is no host verdict
 unfoldable pub isHostList : List ℕ → List ℕ → Bool
@@ -57,13 +54,13 @@ unfoldable pub noHost : ℕ → MessageAnswer
 noHost n = record { number = n; position = 0 }
 
 -- the answer of the host that decides: 9 gives 8 with its position; 1 to 5 is handed on with its position
-unfoldable pub answerOf : Host → MessageAnswer
-answerOf h = record { number = cond (eqb (h .verdict) 9) 8 (h .verdict); position = h .position }
+unfoldable pub decidedAnswer : Host → MessageAnswer
+decidedAnswer h = record { number = cond (eqb (h .verdict) 9) 8 (h .verdict); position = h .position }
 
 -- the first host that is not a "next host" decides; none: 31
 unfoldable pub decided : List Host → MessageAnswer
 decided [] = noHost 31
-decided (h ∷ hs) = cond (isNextHost (h .verdict)) (decided hs) (answerOf h)
+decided (h ∷ hs) = cond (isNextHost (h .verdict)) (decided hs) (decidedAnswer h)
 
 -- the answer of a message's preferences and verdicts, or their refusal
 unfoldable pub messageAnswer : List ℕ → List ℕ → MessageAnswer

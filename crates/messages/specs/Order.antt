@@ -6,9 +6,10 @@ use mathlib.Core.Bool.{Bool, true, false, cond, _&&_, _||_}
 use mathlib.Core.List.{List, [], _∷_}
 use lib.Dec.{eqb, ltb}
 use lib.ListN.{length, getD}
-use Rattle.lists.specs.Bytes.{within, all}
+use Rattle.lists.specs.Bytes.{all}
+use Rattle.verdicts.specs.Verdicts.{isDelivery, isNextHost}
 use Rattle.messages.specs.declared.MessageAnswer.{MessageAnswer}
-use Rattle.messages.specs.Hosts.{Host, isNextHost, isHostList, noHost, answerOf}
+use Rattle.messages.specs.Hosts.{Host, isHostList, noHost, decidedAnswer}
 
 -- of two hosts, x comes first: lower preference first, equal ones as given
 unfoldable pub comesBefore : Host → Host → Bool
@@ -31,13 +32,13 @@ hostAt preferences verdicts k = record { preference = getD preferences k 0; verd
 -- the answer is that of the host at its position, which is not a "next host", and each host that comes before it is one
 pub record Decides (preferences verdicts : List ℕ) (r : MessageAnswer) : Type 0 where
   pub inside : r .position < length preferences
-  pub answer : r ≡ answerOf (hostAt preferences verdicts (r .position))
+  pub answer : r ≡ decidedAnswer (hostAt preferences verdicts (r .position))
   pub decisive : isNextHost (getD verdicts (r .position) 0) ≡ false
   pub first : (k : ℕ) → k < length preferences → comesBefore (hostAt preferences verdicts k) (hostAt preferences verdicts (r .position)) ≡ true → isNextHost (getD verdicts k 0) ≡ true
 
 -- a number that a host which decides can give: 8, or 1 to 5
 unfoldable pub isDecision : ℕ → Bool
-isDecision n = eqb n 8 || within 1 5 n
+isDecision n = eqb n 8 || isDelivery n
 
 -- what a message's answer is: refused; or every host is a "next host"; or one of them decides
 pub data Outcome (preferences verdicts : List ℕ) (r : MessageAnswer) : Type 0 where

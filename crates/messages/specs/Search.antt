@@ -2,10 +2,11 @@
 use mathlib.Core.Bool.{cond}
 use mathlib.Core.List.{List, [], _∷_}
 use lib.Dec.{leb}
+use Rattle.verdicts.specs.Verdicts.{isNextHost}
 use Rattle.messages.specs.declared.MessageAnswer.{MessageAnswer}
 use Rattle.messages.specs.declared.Decider.{Decider}
 use Rattle.messages.specs.declared.Decider.the-variants.{Is, Nobody}
-use Rattle.messages.specs.Hosts.{Host, isNextHost, noHost, answerOf}
+use Rattle.messages.specs.Hosts.{Host, noHost, decidedAnswer}
 
 -- h decides
 abbrev pub decider : Host → Decider
@@ -28,4 +29,4 @@ deciderOf (h ∷ hs) = withHost h (deciderOf hs)
 -- the answer of the host that decides, or of a list where none does
 unfoldable pub decidedBy : Decider → MessageAnswer
 decidedBy Nobody = noHost 31
-decidedBy (Is p v k) = answerOf (record { preference = p; verdict = v; position = k })
+decidedBy (Is p v k) = decidedAnswer (record { preference = p; verdict = v; position = k })

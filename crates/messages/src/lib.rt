@@ -3,7 +3,7 @@ ghost use mathlib.Core.Path.{_≡_};
 ghost use Prim.Native.Nat.{_<_, _≤_};
 ghost use lib.ListN.{length, take};
 ghost use Rattle.numbers.specs.Numbers.{numbers};
-ghost use Rattle.messages.specs.Hosts.{isNextHost, isHostVerdict, noHost, messageAnswer, hostsAnswer, listsAnswer, nextHost};
+ghost use Rattle.messages.specs.Hosts.{isHostVerdict, noHost, messageAnswer, hostsAnswer, listsAnswer, nextHost};
 ghost use Rattle.messages.specs.Search.{withHost, decidedBy};
 
 // The number of the answer, and the position of the host that decides, counted from 0 in the list as given; 0 where no host does.
@@ -46,41 +46,25 @@ fn wide(x: u16) -> u64
     x as u64
 }
 
-// Whether the verdict says "next host".
-fn is_next_host(v: u64) -> bool
-    ensures { λ r. ⌜ r ≡ isNextHost v ⌝ }
-{
-    if v < 20 {
-        return false;
-    }
-    if 27 < v {
-        return false;
-    }
-    true
-}
-
 // Whether v is a host verdict. Most verdicts of a list that is walked say "next host".
 fn is_host_verdict(v: u64) -> bool
     ensures { λ r. ⌜ r ≡ isHostVerdict v ⌝ }
 {
-    let next = is_next_host(v);
+    let next = verdicts::is_next_host(v);
     if next {
         return true;
     }
     if v == 9 {
         return true;
     }
-    if v == 0 {
-        return false;
-    }
-    v <= 5
+    verdicts::is_delivery(v)
 }
 
 // The host that decides among those of `later` and one that was given before them.
 fn with_host(preference: u64, verdict: u64, position: u64, later: Decider) -> Decider
     ensures { λ r. ⌜ r ≡ withHost (record { preference = preference; verdict = verdict; position = position }) later ⌝ }
 {
-    let next = is_next_host(verdict);
+    let next = verdicts::is_next_host(verdict);
     if next {
         return later;
     }
@@ -141,7 +125,7 @@ fn walk_hosts(preferences: [u16; 32], verdicts: [u8; 32], count: usize) -> Messa
         let j = k - 1;
         let p = wide(preferences[j]);
         let v = lists::wide(verdicts[j]);
-        let next = is_next_host(v);
+        let next = verdicts::is_next_host(v);
         if next {
             k = j;
         } else {

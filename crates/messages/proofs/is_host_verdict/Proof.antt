@@ -12,12 +12,12 @@ returns c = search verdict-laws
 returns-2 : tie.Need-returns-2
 returns-2 c = search verdict-laws
 
+is-delivery-requires : tie.Need-is-delivery-requires
+is-delivery-requires c κs = search verdict-laws
+
 returns-3 : tie.Need-returns-3
 returns-3 c = search verdict-laws
 
-returns-4 : tie.Need-returns-4
-returns-4 c = search verdict-laws
-
 pub is-host-verdict-spec : {M : Type 1} → statement M
 is-host-verdict-spec =
-    tie.close (tie.spec is-next-host-requires returns returns-2 returns-3 returns-4)
+    tie.close (tie.spec is-next-host-requires returns returns-2 is-delivery-requires returns-3)
