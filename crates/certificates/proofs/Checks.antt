@@ -1,4 +1,4 @@
--- The ways out of `set_match`, `dane_passes` and `shows_host`. Assumes nothing.
+-- The returns of `set_match`, `dane_passes` and `shows_host`. Assumes nothing.
 use Prim.Native.Nat.{ℕ, _+_, _-_, _<_, _≤_}
 use mathlib.Core.Path.{_≡_, refl, sym, _∙_}
 use mathlib.Core.Bool.{Bool, true, false, not, _&&_, _||_}

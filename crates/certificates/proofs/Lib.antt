@@ -1,4 +1,4 @@
-pub mod Reading
+pub mod FactsReturns
 pub mod Matching
 pub mod Passing
 pub mod Naming

@@ -1,4 +1,4 @@
--- The ways out of the functions on limits. C, L, P, D and Q are the certificates, their lengths, the key places, the digests and the paths. Assumes nothing.
+-- The returns of the functions on limits. C, L, P, D and Q are the certificates, their lengths, the key places, the digests and the paths. Assumes nothing.
 use Prim.Native.Nat.{ℕ, _+_, _*_, _-_, _<_, _≤_}
 use mathlib.Core.Path.{_≡_, refl, sym, ap, _∙_}
 use mathlib.Core.Bool.{Bool, true, false, _&&_, and-false, and-true}

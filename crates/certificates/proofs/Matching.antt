@@ -1,4 +1,4 @@
--- The ways out of `is_compared`, `matches_certificate` and `matches_on_path`. P, D and Q are the key places, the digests and the paths, x is the certificate
+-- The returns of `is_compared`, `matches_certificate` and `matches_on_path`. P, D and Q are the key places, the digests and the paths, x is the certificate
 -- at place k. Assumes nothing.
 use Prim.Native.Nat.{ℕ, _+_, _*_, _-_}
 use mathlib.Core.Path.{_≡_, refl}

@@ -1,4 +1,4 @@
--- The ways out of the functions on the leaf's names. Assumes nothing.
+-- The returns of the functions on the leaf's names. Assumes nothing.
 use Prim.Native.Nat.{ℕ}
 use mathlib.Core.Path.{_≡_, refl, sym, _∙_}
 use mathlib.Core.Bool.{Bool, true, false, or-false}

@@ -1,4 +1,4 @@
--- The ways out of `matches_leaf`, `whole_after_leaf`, `matches_after_leaf` and `record_match`. C, L, P, D and Q are the certificates, their lengths, the key
+-- The returns of `matches_leaf`, `whole_after_leaf`, `matches_after_leaf` and `record_match`. C, L, P, D and Q are the certificates, their lengths, the key
 -- places, the digests and the paths. Assumes nothing.
 use Prim.Native.Nat.{ℕ, _+_, _-_, _<_, _≤_}
 use mathlib.Core.Path.{_≡_, refl, sym, ap, _∙_}

@@ -1,4 +1,4 @@
 pub mod Signed
 pub mod Laws
-pub mod Ways
+pub mod Returns
 mod Worked

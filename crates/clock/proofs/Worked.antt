@@ -4,7 +4,7 @@ use mathlib.Core.Bool.{true, false}
 use mathlib.Core.Option.{none, some}
 use lib.IntN.{pos, negℤ}
 use Rattle.clock.specs.declared.TimeLeft.{TimeLeft}
-use Rattle.clock.specs.Clock.{cappedAge, isReading, clockRefusal, timeLeft, isLive, timeLeftAnswer, numberOf}
+use Rattle.clock.specs.Clock.{cappedAge, isReading, clockRefusal, timeLeft, isLive, timeLeftAnswer, timeLeftNumber}
 
 -- Fetched at 1,000 with max_age 604,800: time left 1 at 605,799, which is live.
 last-second : (timeLeft 1000 604800 605799 ≡ pos 1) × (isLive 1000 604800 605799 ≡ true)
@@ -42,6 +42,6 @@ unfolding cappedAge isReading timeLeft timeLeftAnswer
 extremes = (refl, refl)
 
 -- Either clock above the latest reading: bad clock, which is 62, and not live.
-bad-clocks : (timeLeftAnswer 253402300800 604800 1000 ≡ TimeLeft.BadClock) × (timeLeftAnswer 1000 604800 253402300800 ≡ TimeLeft.BadClock) × (clockRefusal 253402300800 1000 ≡ some 62) × (clockRefusal 1000 253402300800 ≡ some 62) × (clockRefusal 1000 1000 ≡ none) × (numberOf TimeLeft.BadClock ≡ some 62) × (isLive 253402300800 604800 1000 ≡ false)
+bad-clocks : (timeLeftAnswer 253402300800 604800 1000 ≡ TimeLeft.BadClock) × (timeLeftAnswer 1000 604800 253402300800 ≡ TimeLeft.BadClock) × (clockRefusal 253402300800 1000 ≡ some 62) × (clockRefusal 1000 253402300800 ≡ some 62) × (clockRefusal 1000 1000 ≡ none) × (timeLeftNumber TimeLeft.BadClock ≡ some 62) × (isLive 253402300800 604800 1000 ≡ false)
 unfolding cappedAge isReading clockRefusal timeLeft isLive timeLeftAnswer
 bad-clocks = (refl, refl, refl, refl, refl, refl, refl)

@@ -52,6 +52,6 @@ unfoldable pub timeLeftAnswer : ℕ → ℕ → ℕ → TimeLeft
 timeLeftAnswer fetched maxAge present = cond (isReading fetched && isReading present) (Seconds (timeLeft fetched maxAge present)) BadClock
 
 -- Document 01's answer number for each case of that answer: a time left is a value and has none, a bad clock has 62.
-abbrev pub numberOf : TimeLeft → Option ℕ
-numberOf (Seconds left) = none
-numberOf BadClock = some badClock
+abbrev pub timeLeftNumber : TimeLeft → Option ℕ
+timeLeftNumber (Seconds left) = none
+timeLeftNumber BadClock = some badClock

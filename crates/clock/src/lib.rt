@@ -2,7 +2,7 @@
 ghost use mathlib.Core.Path.{_≡_};
 ghost use Prim.Native.Nat.{_+_, _≤_};
 ghost use lib.IntN.{pos, _-ℤ_};
-ghost use Rattle.clock.specs.Clock.{longest, lifetimeOf, latest, isReading, clockRefusal, isLive, timeLeftAnswer, numberOf};
+ghost use Rattle.clock.specs.Clock.{longest, lifetimeOf, latest, isReading, clockRefusal, isLive, timeLeftAnswer, timeLeftNumber};
 
 pub const LATEST_READING: u64 = 253402300799;
 
@@ -51,7 +51,7 @@ fn difference(fetched: Reading, lifetime: Lifetime, present: Reading) -> i64
 
 // The time left at a present clock. A lifetime above the longest counts as the longest.
 pub fn time_left(fetched: Reading, lifetime: Lifetime, present: Reading) -> TimeLeft
-    ensures { λ r. ⌜ (r ≡ timeLeftAnswer (fetched .0) (lifetime .0) (present .0)) × (numberOf r ≡ clockRefusal (fetched .0) (present .0)) ⌝ }
+    ensures { λ r. ⌜ (r ≡ timeLeftAnswer (fetched .0) (lifetime .0) (present .0)) × (timeLeftNumber r ≡ clockRefusal (fetched .0) (present .0)) ⌝ }
 {
     if !is_reading(fetched) {
         return TimeLeft::BadClock;

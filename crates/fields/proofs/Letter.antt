@@ -1,4 +1,4 @@
--- The ways out of `is_letter_or_digit`: small letters first. Assumes nothing.
+-- The returns of `is_letter_or_digit`: small letters first. Assumes nothing.
 use Prim.Native.Nat.{ℕ, _<_, _≤_}
 use mathlib.Core.Path.{_≡_}
 use mathlib.Core.Bool.{false, and-false, or-false}

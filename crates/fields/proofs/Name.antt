@@ -1,4 +1,4 @@
--- The names of fields: the ways out of `name_end`, what its answer says to a caller, and that a text has one name at most. Assumes nothing.
+-- The names of fields: the returns of `name_end`, what its answer says to a caller, and that a text has one name at most. Assumes nothing.
 use Prim.Native.Nat.{ℕ, _+_, _-_, _<_, _≤_}
 use mathlib.Core.Path.{_≡_, refl, sym, _∙_}
 use mathlib.Core.Bool.{Bool, true, false, cond, _&&_, and-false}
@@ -81,7 +81,7 @@ module _ (s : List ℕ) (end at i : ℕ) (w : at ≤ i) (place : at + indexOf en
 
 pub ruleset name-laws = (find-next, name-none, name-empty, name-long, name-next, name-bad, name-named, name-first, not-true, not-false, needs)
 
--- `is_name_byte`: its ways out
+-- `is_name_byte`: its returns
 module _ (b : ℕ) (t : Bool) (g : t ≡ letterOrDigit b) where
   pub byte-plain : t ≡ true → true ≡ nameByte b
   unfolding nameByte

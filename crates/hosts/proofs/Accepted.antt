@@ -30,7 +30,7 @@ use Rattle.hosts.specs.Call.{ifSupplied, codesFit, clocksFit, hostFits, 
 use Rattle.hosts.specs.Demands.{isRefusal, IsPassed}
 use Rattle.hosts.proofs.Trees.{GivenOk}
 use Rattle.hosts.proofs.Values.{OkAnswer, sized, okCertificate, OkPresented, Ok}
-use Rattle.hosts.proofs.Matter.{OkName}
+use Rattle.hosts.proofs.TwoVerdicts.{OkName}
 
 -- every check passes
 pub record Passes (a : Arguments) : Type 0 where

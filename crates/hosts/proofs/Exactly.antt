@@ -16,7 +16,7 @@ use Rattle.hosts.specs.Facts.{Facts, later}
 use Rattle.hosts.specs.Tree.{Outcome, final, missing, walk, answersRead}
 use Rattle.hosts.specs.Rules.{rules}
 use Rattle.hosts.specs.Arguments.{Arguments, baseOf, factsOf}
-use Rattle.hosts.specs.Call.{codesFit, clocksFit, hostNamesFit, policyFits, answersFit, certificatesFit, Check, checks, refused, checked, told, walked, hostAnswer}
+use Rattle.hosts.specs.Call.{codesFit, clocksFit, hostNamesFit, policyFits, answersFit, certificatesFit, Check, checks, refused, checked, outcomeAnswer, walked, hostAnswer}
 use Rattle.hosts.specs.Demands.{isRefusal}
 use Rattle.hosts.proofs.Trees.{Comes, comes}
 use Rattle.hosts.proofs.Shape.{isQuestion, verdict-no-refusal, question-no-refusal, each-rules}
@@ -47,7 +47,7 @@ not-refusal m n h k = ne-eqb m n (λ e. k (ap isRefusal e ∙ h))
 walk-refuses : (n : ℕ) → isRefusal n ≡ true → (g : Facts) → eqb (walked g .number) n ≡ (hasGap g (walk (rules (g .base)) g) && eqb 66 n)
 walk-refuses n h g = go (walk (rules (g .base)) g) (comes isVerdict isQuestion (rules (g .base)) g (each-rules (g .base)))
   where
-    go : (o : Outcome) → Comes isVerdict isQuestion o → eqb (told g (answersRead (rules (g .base)) g) o .number) n ≡ (hasGap g o && eqb 66 n)
+    go : (o : Outcome) → Comes isVerdict isQuestion o → eqb (outcomeAnswer g (answersRead (rules (g .base)) g) o .number) n ≡ (hasGap g o && eqb 66 n)
     go (final v) k = not-refusal v n h (verdict-no-refusal v k)
     go (missing q) k = at (later (q .fact) g)
       where

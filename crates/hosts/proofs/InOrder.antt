@@ -10,21 +10,21 @@ use Rattle.tlsa.specs.Address.{TlsaName, expandedName, hostName, names, namesTo
 use Rattle.tlsa.specs.Answer.{Answer}
 use Rattle.hosts.specs.Facts.{Base, Handshake, established, failed, first, second, tlsa, Full, value}
 use Rattle.hosts.specs.Tree.{Rules, reached}
-use Rattle.hosts.specs.Rules.{needsMtaSts, isListed, Taken, nothing, needsDane, shaken, connect, domainOf, seek, start, rules}
+use Rattle.hosts.specs.Rules.{needsMtaSts, isListed, Taken, nothing, needsDane, afterHandshake, connect, domainOf, seek, start, rules}
 use Rattle.hosts.specs.Demands.{isRising}
 use Rattle.lists.proofs.Bools.{by-cond}
-use Rattle.hosts.proofs.Reading.{by-answer}
+use Rattle.hosts.proofs.AnswerCases.{by-answer}
 
 module _ (b : Base) (f : Full) where
   abbrev Rises : ℕ → Rules → Type 0
   Rises n t = isRising n (reached t f) ≡ true
 
-  rises-shaken : (s : Taken) (m : Handshake) → Rises 4 (shaken b s m)
-  rises-shaken s established = by-cond (Rises 4) (needsDane s || needsMtaSts b) (λ e. refl) (λ e. refl)
-  rises-shaken s failed = refl
+  rises-handshake : (s : Taken) (m : Handshake) → Rises 4 (afterHandshake b s m)
+  rises-handshake s established = by-cond (Rises 4) (needsDane s || needsMtaSts b) (λ e. refl) (λ e. refl)
+  rises-handshake s failed = refl
 
   rises-connect : (n : ℕ) → ltb n 3 ≡ true → (s : Taken) → Rises n (connect b s)
-  rises-connect n h s = rw h (by-cond (Rises 3) (f .offered) (λ e. rises-shaken s (f .outcome)) (λ e. refl))
+  rises-connect n h s = rw h (by-cond (Rises 3) (f .offered) (λ e. rises-handshake s (f .outcome)) (λ e. refl))
 
   rises-second : (n : TlsaName) → Rises 1 (seek b second (n ∷ []))
   rises-second n = by-answer b (domainOf b n) (seek b second []) (λ (a : Answer) (t : Rules). Rises 2 t) refl last last last (λ r rs e. refl) (λ r rs e. rises-connect 2 refl _) (value f (tlsa second))

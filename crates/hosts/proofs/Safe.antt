@@ -16,11 +16,11 @@ use Rattle.verdicts.specs.Verdicts.{isDelivery}
 use Rattle.hosts.specs.Facts.{Base, Handshake, established, Place, first, second, tlsa, Full, value}
 use Rattle.hosts.specs.Facts as F
 use Rattle.hosts.specs.Tree.{Rules, Question, verdictOf, reached}
-use Rattle.hosts.specs.Rules.{needsMtaSts, isListed, mtaStsPasses, Taken, nothing, set, needs, isTls, needsDane, needsAnything, takenPasses, lastVerdict, shaken, connect, domainOf, heed, seek, start, rules}
+use Rattle.hosts.specs.Rules.{needsMtaSts, isListed, mtaStsPasses, Taken, nothing, set, needs, isTls, needsDane, needsAnything, takenPasses, lastVerdict, afterHandshake, connect, domainOf, afterAnswer, seek, start, rules}
 use Rattle.hosts.specs.Arguments.{Arguments, baseOf}
 use Rattle.hosts.specs.Call.{hostAnswer}
 use Rattle.hosts.specs.Demands.{IsFull, fullOf, answersAt, noneUsable, reachedAnswers}
-use Rattle.hosts.proofs.Reading.{authentication-is, tls-is, by-answer}
+use Rattle.hosts.proofs.AnswerCases.{authentication-is, tls-is, by-answer}
 use Rattle.hosts.proofs.FullSets.{full-number}
 use Rattle.hosts.proofs.Second.{quiet-connect}
 
@@ -56,16 +56,16 @@ module _ (b : Base) (f : Full) where
     neither false true h = apart (sym h)
     neither false false h = (λ z. apart z, λ z. apart z)
 
-    safe-shaken : (m : Handshake) → SafeWith s (verdictOf (shaken b s m) f)
+    safe-handshake : (m : Handshake) → SafeWith s (verdictOf (afterHandshake b s m) f)
     unfolding isDelivery
-    safe-shaken established = by-cond (λ (t : Rules). SafeWith s (verdictOf t f)) (needsDane s || needsMtaSts b)
+    safe-handshake established = by-cond (λ (t : Rules). SafeWith s (verdictOf t f)) (needsDane s || needsMtaSts b)
         (λ e. last-safe (needsDane s) (needsMtaSts b) (takenPasses b s (f .presented)) (mtaStsPasses b (f .presented)))
         (λ e h. let z = neither (needsDane s) (needsMtaSts b) e in (λ x. absurd (z .0 x), λ x. absurd (z .1 x)))
-    safe-shaken F.failed = safe-none 25 refl
+    safe-handshake F.failed = safe-none 25 refl
 
     safe-connect : SafeWith s (verdictOf (connect b s) f)
     unfolding isDelivery
-    safe-connect = by-cond (λ (t : Rules). SafeWith s (verdictOf t f)) (f .offered) (λ e. safe-shaken (f .outcome)) (λ e. safe-none 24 refl)
+    safe-connect = by-cond (λ (t : Rules). SafeWith s (verdictOf t f)) (f .offered) (λ e. safe-handshake (f .outcome)) (λ e. safe-none 24 refl)
 
   -- a question is one of some
   abbrev pub IsAmong : Question → List Question → Type 0
@@ -111,9 +111,9 @@ module _ (b : Base) (f : Full) where
   abbrev SafeAfter : TlsaName → Place → Answer → Rules → Type 0
   SafeAfter n p a t = value f (tlsa p) ≡ a → Safe (a ∷ answersAt (reached t f) f) (questionAt n p ∷ reached t f) t
 
-  safe-heed : (n : TlsaName) (p : Place) (next : Rules) → Safe (answersAt (reached next f) f) (reached next f) next → (a : Answer) → SafeAfter n p a (heed b (domainOf b n) (secureRecords a) next (readOf a))
+  safe-answer : (n : TlsaName) (p : Place) (next : Rules) → Safe (answersAt (reached next f) f) (reached next f) next → (a : Answer) → SafeAfter n p a (afterAnswer b (domainOf b n) (secureRecords a) next (readOf a))
   unfolding any isDelivery
-  safe-heed n p next ih = by-answer b (domainOf b n) next (SafeAfter n p) (λ v h. apart h)
+  safe-answer n p next ih = by-answer b (domainOf b n) next (SafeAfter n p) (λ v h. apart h)
       (λ v h. (ih h .0, λ e. later-dane _ _ (ih h .1 e)))
       (λ v h. (ih h .0, λ e. later-dane _ _ (ih h .1 e)))
       (λ v h. (ih h .0, λ e. later-dane _ _ (ih h .1 e)))
@@ -122,7 +122,7 @@ module _ (b : Base) (f : Full) where
 
   safe-seek : (p : Place) (ns : List TlsaName) → Safe (answersAt (reached (seek b p ns) f) f) (reached (seek b p ns) f) (seek b p ns)
   safe-seek p [] = subst (λ (l : List Answer). Safe l (reached (connect b nothing) f) (connect b nothing)) (sym (quiet-connect b f nothing .0)) (safe-nothing _)
-  safe-seek p (n ∷ ns) = safe-heed n p (seek b second ns) (safe-seek second ns) (value f (tlsa p)) refl
+  safe-seek p (n ∷ ns) = safe-answer n p (seek b second ns) (safe-seek second ns) (value f (tlsa p)) refl
 
   safe-names : (ns : List TlsaName) → Safe (answersAt (reached (start b (names ns)) f) f) (reached (start b (names ns)) f) (start b (names ns))
   unfolding isDelivery

@@ -15,11 +15,11 @@ use Rattle.hosts.specs.declared.HostAnswer.{HostAnswer}
 use Rattle.hosts.specs.Facts.{Base, Handshake, established, Place, first, second, tlsa, handshake, Full, value}
 use Rattle.hosts.specs.Facts as F
 use Rattle.hosts.specs.Tree.{Rules, verdict, ask, verdictOf, reached}
-use Rattle.hosts.specs.Rules.{needsMtaSts, isListed, mtaStsPasses, Taken, nothing, set, needs, isTls, needsDane, needsAnything, takenPasses, lastVerdict, shaken, connect, domainOf, heed, seek, start, rules}
+use Rattle.hosts.specs.Rules.{needsMtaSts, isListed, mtaStsPasses, Taken, nothing, set, needs, isTls, needsDane, needsAnything, takenPasses, lastVerdict, afterHandshake, connect, domainOf, afterAnswer, seek, start, rules}
 use Rattle.hosts.specs.Arguments.{Arguments, baseOf}
 use Rattle.hosts.specs.Call.{hostAnswer}
 use Rattle.hosts.specs.Demands.{IsFull, fullOf, answersAt, isHandshake, isEstablished, hasAddress, noneFailed, noneUsable, noneAtAll, Demand2}
-use Rattle.hosts.proofs.Reading.{authentication-is, tls-is, by-answer}
+use Rattle.hosts.proofs.AnswerCases.{authentication-is, tls-is, by-answer}
 use Rattle.hosts.proofs.FullSets.{full-number}
 
 -- delivery without authentication
@@ -98,17 +98,17 @@ module _ (b : Base) (f : Full) where
     abbrev pub madeOf : ℕ
     madeOf = made (needsDane s) (needsMtaSts b) (takenPasses b s (f .presented)) (mtaStsPasses b (f .presented))
 
-    quiet-shaken : (m : Handshake) → Quiet (shaken b s m) false (cond (isEstablished m) madeOf (cond (needsAnything b s) 25 1))
+    quiet-handshake : (m : Handshake) → Quiet (afterHandshake b s m) false (cond (isEstablished m) madeOf (cond (needsAnything b s) 25 1))
     unfolding any
-    quiet-shaken established = quiet-cond (needsDane s || needsMtaSts b) _ _ false _ _ (refl, refl, refl) (refl, refl, refl)
-    quiet-shaken F.failed = (refl, refl, refl)
+    quiet-handshake established = quiet-cond (needsDane s || needsMtaSts b) _ _ false _ _ (refl, refl, refl) (refl, refl, refl)
+    quiet-handshake F.failed = (refl, refl, refl)
 
     pub quiet-connect : Quiet (connect b s) (f .offered) (ended (isTls (needs s)) (needsMtaSts b) (f .offered) (isEstablished (f .outcome)) madeOf)
     unfolding any
     quiet-connect = go (f .offered)
       where
-        go : (o : Bool) → Quiet (cond o (ask 11 handshake (shaken b s)) (verdict (cond (needsAnything b s) 24 1))) o (ended (isTls (needs s)) (needsMtaSts b) o (isEstablished (f .outcome)) madeOf)
-        go true = (quiet-shaken (f .outcome) .0, refl, quiet-shaken (f .outcome) .2)
+        go : (o : Bool) → Quiet (cond o (ask 11 handshake (afterHandshake b s)) (verdict (cond (needsAnything b s) 24 1))) o (ended (isTls (needs s)) (needsMtaSts b) o (isEstablished (f .outcome)) madeOf)
+        go true = (quiet-handshake (f .outcome) .0, refl, quiet-handshake (f .outcome) .2)
         go false = (refl, refl, refl)
 
     -- the end, after a set that needs DANE (n) and TLS (t)
@@ -137,14 +137,14 @@ module _ (b : Base) (f : Full) where
   unfolding any
   fits-short r rs e = rw e (refl, refl)
 
-  fits-heed : (domain : List ℕ) (next : Rules) → FitsRules next → (a : Answer) → FitsAfter a (heed b domain (secureRecords a) next (readOf a))
+  fits-answer : (domain : List ℕ) (next : Rules) → FitsRules next → (a : Answer) → FitsAfter a (afterAnswer b domain (secureRecords a) next (readOf a))
   unfolding any
-  fits-heed domain next h = by-answer b domain next FitsAfter (refl, refl) h h h fits-short (fits-taken domain)
+  fits-answer domain next h = by-answer b domain next FitsAfter (refl, refl) h h h fits-short (fits-taken domain)
 
   fits-seek : (p : Place) (ns : List TlsaName) → FitsRules (seek b p ns)
   unfolding any
   fits-seek p [] = fits-nothing
-  fits-seek p (n ∷ ns) = fits-heed (domainOf b n) (seek b second ns) (fits-seek second ns) (value f (tlsa p))
+  fits-seek p (n ∷ ns) = fits-answer (domainOf b n) (seek b second ns) (fits-seek second ns) (value f (tlsa p))
 
   fits-names : (ns : List TlsaName) → FitsRules (start b (names ns))
   unfolding any

@@ -16,12 +16,12 @@ use Rattle.verdicts.specs.Verdicts.{isDelivery, isNextHost, isVerdict}
 use Rattle.verdicts.proofs.Ranges.{verdict-no-middle, verdict-below}
 use Rattle.hosts.specs.Facts.{Base, Handshake, established, failed, Place, first, second, Facts}
 use Rattle.hosts.specs.Tree.{Rules, verdict, walk, answersRead, final}
-use Rattle.hosts.specs.Rules.{needsMtaSts, isListed, mtaStsPasses, Taken, nothing, set, needsDane, needsAnything, takenPasses, lastVerdict, shaken, connect, domainOf, seek, start, rules}
+use Rattle.hosts.specs.Rules.{needsMtaSts, isListed, mtaStsPasses, Taken, nothing, set, needsDane, needsAnything, takenPasses, lastVerdict, afterHandshake, connect, domainOf, seek, start, rules}
 use Rattle.hosts.specs.Demands.{isRefusal}
 use Rattle.lists.proofs.Bools.{apart, and-left, and-right, by-cond}
 use borrow.Author.Tests.{not-true, leb-true}
 use Rattle.hosts.proofs.Trees.{Each, each-more, Comes, comes, Most, most-read}
-use Rattle.hosts.proofs.Reading.{by-answer}
+use Rattle.hosts.proofs.AnswerCases.{by-answer}
 
 -- a question, 10 to 14
 abbrev pub isQuestion : ℕ → Bool
@@ -66,11 +66,11 @@ module _ (b : Base) where
 
   sought-connect : (s : Taken) → Sought (connect b s)
   unfolding isDelivery isNextHost
-  sought-connect s = (refl, λ o. by-cond Sought o (λ e. (refl, sought-shaken)) (λ e. sought-cond (needsAnything b s) 24 1 refl refl))
+  sought-connect s = (refl, λ o. by-cond Sought o (λ e. (refl, sought-handshake)) (λ e. sought-cond (needsAnything b s) 24 1 refl refl))
     where
-      sought-shaken : (m : Handshake) → Sought (shaken b s m)
-      sought-shaken established = by-cond Sought (needsDane s || needsMtaSts b) (λ e. (refl, λ p. last-sought (needsDane s) (needsMtaSts b) (takenPasses b s p) (mtaStsPasses b p))) (λ e. refl)
-      sought-shaken failed = sought-cond (needsAnything b s) 25 1 refl refl
+      sought-handshake : (m : Handshake) → Sought (afterHandshake b s m)
+      sought-handshake established = by-cond Sought (needsDane s || needsMtaSts b) (λ e. (refl, λ p. last-sought (needsDane s) (needsMtaSts b) (takenPasses b s p) (mtaStsPasses b p))) (λ e. refl)
+      sought-handshake failed = sought-cond (needsAnything b s) 25 1 refl refl
 
   question-is : (n : TlsaName) → isQuestion (questionOf n) ≡ true
   question-is expandedName = refl
@@ -88,11 +88,11 @@ module _ (b : Base) where
   most-cond false t u n h k = k
 
   most-connect : (s : Taken) (n : ℕ) → Most (connect b s) n
-  most-connect s n = (n, omega arith, λ x. most-cond x _ _ n (n, omega arith, most-shaken) tt)
+  most-connect s n = (n, omega arith, λ x. most-cond x _ _ n (n, omega arith, most-handshake) tt)
     where
-      most-shaken : (m : Handshake) → Most (shaken b s m) n
-      most-shaken established = most-cond (needsDane s || needsMtaSts b) _ _ n (n, omega arith, λ p. tt) tt
-      most-shaken failed = tt
+      most-handshake : (m : Handshake) → Most (afterHandshake b s m) n
+      most-handshake established = most-cond (needsDane s || needsMtaSts b) _ _ n (n, omega arith, λ p. tt) tt
+      most-handshake failed = tt
 
   most-seek : (p : Place) (ns : List TlsaName) → Most (seek b p ns) (length ns)
   most-seek p [] = most-connect nothing 0

@@ -13,7 +13,7 @@ use Rattle.hosts.specs.Facts.{Facts, later}
 use Rattle.hosts.specs.Tree.{Outcome, final, missing, walk, answersRead}
 use Rattle.hosts.specs.Rules.{rules}
 use Rattle.hosts.specs.Arguments.{Arguments, factsOf}
-use Rattle.hosts.specs.Call.{refused, told, walked, hostAnswer}
+use Rattle.hosts.specs.Call.{refused, outcomeAnswer, walked, hostAnswer}
 use Rattle.hosts.specs.Demands.{isRefusal}
 use Rattle.hosts.proofs.Trees.{Comes, comes}
 use Rattle.hosts.proofs.Shape.{isQuestion, verdict-no-refusal, question-no-refusal, isEarly, each-rules, at-most-two, unread}
@@ -31,7 +31,7 @@ by-walk : (P : HostAnswer → Type 0) (g : Facts)
     → P (walked g)
 by-walk P g f r q = go (walk (rules (g .base)) g) refl (comes isVerdict isQuestion (rules (g .base)) g (each-rules (g .base)))
   where
-    go : (o : Outcome) → walk (rules (g .base)) g ≡ o → Comes isVerdict isQuestion o → P (told g (answersRead (rules (g .base)) g) o)
+    go : (o : Outcome) → walk (rules (g .base)) g ≡ o → Comes isVerdict isQuestion o → P (outcomeAnswer g (answersRead (rules (g .base)) g) o)
     go (final v) e h = f v h e
     go (missing m) e h = by-cond P (later (m .fact) g) (λ l. r) (λ l. q (m .number) h)
 

@@ -12,13 +12,13 @@ use Rattle.hosts.specs.Facts as F
 use Rattle.hosts.specs.Tree.{Rules, Outcome, final, missing, walk, answersRead, reached, verdictOf}
 use Rattle.hosts.specs.Rules.{rules}
 use Rattle.hosts.specs.Arguments.{Arguments, baseOf, factsOf, presentedIn}
-use Rattle.hosts.specs.Call.{refused, told, walked, hostAnswer}
+use Rattle.hosts.specs.Call.{refused, outcomeAnswer, walked, hostAnswer}
 use Rattle.hosts.specs.Demands.{isRefusal, IsPassed, Keeps, orElse, fullOf, firstMissing, OneVerdict, Settled, Demand3}
 use Rattle.hosts.proofs.Trees.{KeptBy, Says, says, counted, Comes, comes, Two, Differ, Leaves, leaves}
 use Rattle.hosts.proofs.Values.{Ok, setOf, set-ok, nobody, nobody-ok}
 use Rattle.hosts.proofs.Shape.{isQuestion, question-no-verdict, each-rules, at-most-two}
 use Rattle.hosts.proofs.InOrder.{in-order}
-use Rattle.hosts.proofs.Matter.{matters-rules}
+use Rattle.hosts.proofs.TwoVerdicts.{matters-rules}
 use Rattle.hosts.proofs.Accepted.{Passes, walks, accepted-passes, given-ok, host-ok, expanded-ok}
 use Rattle.hosts.proofs.FullSets.{fullArguments, full-number, filled, filled-number, filled-keeps}
 
@@ -59,7 +59,7 @@ module _ (a : Arguments) (passed : IsPassed a) (p : Passes a) where
       ∙ filled-number a passed p (t .right) (t .right-ok)))
 
   settled : (o : Outcome) → ((f : Full) → KeptBy g f → Says o (firstMissing g (reached tree f)) (verdictOf tree f)) → Comes isVerdict isQuestion o → Leaves Ok o tree g
-      → (T (isRefusal (told g (answersRead tree g) o .number)) → ⊥) → Settled a (told g (answersRead tree g) o)
+      → (T (isRefusal (outcomeAnswer g (answersRead tree g) o .number)) → ⊥) → Settled a (outcomeAnswer g (answersRead tree g) o)
   settled (final v) s w x n = record {
     exactly = (λ t c d k l. is-verdict c k ∙ sym (is-verdict d l), λ t. by-true (isVerdict v) w);
     verdict = λ t c k. is-verdict c k;

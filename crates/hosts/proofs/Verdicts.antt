@@ -23,12 +23,12 @@ use Rattle.certificates.specs.Checks.{references, danePasses, showsHost}
 use Rattle.hosts.specs.Facts.{HeldPolicy, Base, Handshake, first, second, Full}
 use Rattle.hosts.specs.Facts as F
 use Rattle.hosts.specs.Tree.{Rules, verdict, verdictOf, answersRead}
-use Rattle.hosts.specs.Rules.{isEnforce, isEnforced, needsMtaSts, patternsOf, isListed, mtaStsPasses, Taken, nothing, set, needsDane, shaken, connect, heed, seek, start, rules}
+use Rattle.hosts.specs.Rules.{isEnforce, isEnforced, needsMtaSts, patternsOf, isListed, mtaStsPasses, Taken, nothing, set, needsDane, afterHandshake, connect, afterAnswer, seek, start, rules}
 use Rattle.hosts.specs.Arguments.{Arguments, baseOf}
 use Rattle.hosts.specs.Call.{hostAnswer}
 use Rattle.hosts.specs.Demands.{isEstablished, IsFull, fullOf}
 use Rattle.hosts.specs.Verdicts.{addressFailed, addressMissing, Tried, tried, searchEnd, isLookupFailure, hasRecord, enforces, isLiveEnforce, listsHost, certifiesHost, isHandshakeMade, Tests, testsAt, testsOf, is1, is2, is3, is4, is5, is20, is21, is22, is23, is24, is25, is26, is27, Condition, conditions, holding, Exactly, answersUpTo, countOf}
-use Rattle.hosts.proofs.Reading.{authentication-is, tls-is, by-answer}
+use Rattle.hosts.proofs.AnswerCases.{authentication-is, tls-is, by-answer}
 use Rattle.hosts.proofs.FullSets.{full-number, full-count}
 use Rattle.hosts.proofs.Trees.{full}
 use Rattle.hosts.proofs.Second.{ended, made, quiet-connect}
@@ -147,15 +147,15 @@ module _ (b : Base) (f : Full) where
     fits-failed k u d = only-22 (needsMtaSts b) (isListed b) k u (f .offered) (isEstablished (f .outcome)) d (mtaStsPasses b (f .presented)) q
 
     -- a name that is tried
-    fits-heed : (domain : List ℕ) (next : Rules) (ts : List Tried) → Fits next ts → (a : Answer) → Fits (heed b domain (secureRecords a) next (readOf a)) (record { name = domain; answer = a } ∷ ts)
-    fits-heed domain next ts h = by-answer b domain next (λ (a : Answer) (t : Rules). Fits t (record { name = domain; answer = a } ∷ ts))
+    fits-answer : (domain : List ℕ) (next : Rules) (ts : List Tried) → Fits next ts → (a : Answer) → Fits (afterAnswer b domain (secureRecords a) next (readOf a)) (record { name = domain; answer = a } ∷ ts)
+    fits-answer domain next ts h = by-answer b domain next (λ (a : Answer) (t : Rules). Fits t (record { name = domain; answer = a } ∷ ts))
         (fits-failed _ _ _) h h h
         (λ r rs e. rw e (fits-failed _ _ _))
         (fits-taken domain ts)
 
     -- the host alone, with an answer
-    fits-host : (a : Answer) → Fits (heed b (b .host) (secureRecords a) (connect b nothing) (readOf a)) (record { name = b .host; answer = a } ∷ [])
-    fits-host = fits-heed (b .host) (connect b nothing) [] fits-nothing
+    fits-host : (a : Answer) → Fits (afterAnswer b (b .host) (secureRecords a) (connect b nothing) (readOf a)) (record { name = b .host; answer = a } ∷ [])
+    fits-host = fits-answer (b .host) (connect b nothing) [] fits-nothing
 
   -- the tests of the paper are those of the rules
   tests-are : (x : Address) → addressFailed x ≡ false → addressMissing x ≡ false → (t : Tried) → at t ≡ testsAt b f x t
@@ -190,7 +190,7 @@ module _ (b : Base) (f : Full) where
   fits-address : (x : Address) → Only (verdictOf (start b (namesToTry x)) f) (testsAt b f x (searchEnd (tried b f x)))
   fits-address NoAliasSecure = fits-found NoAliasSecure (hostName ∷ []) refl refl (λ q. fits-host q (f .tlsa1))
   fits-address NoAliasInsecure = fits-found NoAliasInsecure [] refl refl fits-nothing
-  fits-address AliasSecure = fits-found AliasSecure (expandedName ∷ hostName ∷ []) refl refl (λ q. fits-heed q (b .expanded) (seek b second (hostName ∷ [])) (record { name = b .host; answer = f .tlsa2 } ∷ []) (fits-host q (f .tlsa2)) (f .tlsa1))
+  fits-address AliasSecure = fits-found AliasSecure (expandedName ∷ hostName ∷ []) refl refl (λ q. fits-answer q (b .expanded) (seek b second (hostName ∷ [])) (record { name = b .host; answer = f .tlsa2 } ∷ []) (fits-host q (f .tlsa2)) (f .tlsa1))
   fits-address AliasFirstStepSecure = fits-found AliasFirstStepSecure (hostName ∷ []) refl refl (λ q. fits-host q (f .tlsa1))
   fits-address AliasFirstStepInsecure = fits-found AliasFirstStepInsecure [] refl refl fits-nothing
   fits-address Failed = fits-20
@@ -205,16 +205,16 @@ module _ (b : Base) (f : Full) where
   abbrev reads : Rules → ℕ
   reads t = answersRead t (full b f)
 
-  reads-shaken : (s : Taken) (m : Handshake) → reads (shaken b s m) ≡ 0
-  reads-shaken s F.established = by-cond (λ (t : Rules). reads t ≡ 0) (needsDane s || needsMtaSts b) (λ e. refl) (λ e. refl)
-  reads-shaken s F.failed = refl
+  reads-handshake : (s : Taken) (m : Handshake) → reads (afterHandshake b s m) ≡ 0
+  reads-handshake s F.established = by-cond (λ (t : Rules). reads t ≡ 0) (needsDane s || needsMtaSts b) (λ e. refl) (λ e. refl)
+  reads-handshake s F.failed = refl
 
   reads-connect : (s : Taken) → reads (connect b s) ≡ 0
-  reads-connect s = by-cond (λ (t : Rules). 0 + reads t ≡ 0) (f .offered) (λ e. rw (reads-shaken s (f .outcome))) (λ e. refl)
+  reads-connect s = by-cond (λ (t : Rules). 0 + reads t ≡ 0) (f .offered) (λ e. rw (reads-handshake s (f .outcome))) (λ e. refl)
 
   -- a name that is tried
-  reads-heed : (domain : List ℕ) (next : Rules) (ts : List Tried) → reads next ≡ answersUpTo ts → (a : Answer) → (1 + reads (heed b domain (secureRecords a) next (readOf a))) ≡ answersUpTo (record { name = domain; answer = a } ∷ ts)
-  reads-heed domain next ts h = by-answer b domain next (λ (a : Answer) (t : Rules). (1 + reads t) ≡ answersUpTo (record { name = domain; answer = a } ∷ ts))
+  reads-answer : (domain : List ℕ) (next : Rules) (ts : List Tried) → reads next ≡ answersUpTo ts → (a : Answer) → (1 + reads (afterAnswer b domain (secureRecords a) next (readOf a))) ≡ answersUpTo (record { name = domain; answer = a } ∷ ts)
+  reads-answer domain next ts h = by-answer b domain next (λ (a : Answer) (t : Rules). (1 + reads t) ≡ answersUpTo (record { name = domain; answer = a } ∷ ts))
       refl more more more
       (λ r rs e. refl)
       (λ r rs e. rw (reads-connect (set domain (r ∷ rs))))
@@ -222,8 +222,8 @@ module _ (b : Base) (f : Full) where
       more : (1 + reads next) ≡ (1 + answersUpTo ts)
       more = ap (λ (n : ℕ). 1 + n) h
 
-  reads-host : (a : Answer) → (1 + reads (heed b (b .host) (secureRecords a) (connect b nothing) (readOf a))) ≡ answersUpTo (record { name = b .host; answer = a } ∷ [])
-  reads-host = reads-heed (b .host) (connect b nothing) [] (reads-connect nothing)
+  reads-host : (a : Answer) → (1 + reads (afterAnswer b (b .host) (secureRecords a) (connect b nothing) (readOf a))) ≡ answersUpTo (record { name = b .host; answer = a } ∷ [])
+  reads-host = reads-answer (b .host) (connect b nothing) [] (reads-connect nothing)
 
   abbrev countAt : Address → ℕ
   countAt x =
@@ -240,7 +240,7 @@ module _ (b : Base) (f : Full) where
   reads-address : (x : Address) → reads (start b (namesToTry x)) ≡ countAt x
   reads-address NoAliasSecure = reads-names (hostName ∷ []) (tried b f NoAliasSecure) (reads-host (f .tlsa1))
   reads-address NoAliasInsecure = reads-names [] [] (reads-connect nothing)
-  reads-address AliasSecure = reads-names (expandedName ∷ hostName ∷ []) (tried b f AliasSecure) (reads-heed (b .expanded) (seek b second (hostName ∷ [])) (record { name = b .host; answer = f .tlsa2 } ∷ []) (reads-host (f .tlsa2)) (f .tlsa1))
+  reads-address AliasSecure = reads-names (expandedName ∷ hostName ∷ []) (tried b f AliasSecure) (reads-answer (b .expanded) (seek b second (hostName ∷ [])) (record { name = b .host; answer = f .tlsa2 } ∷ []) (reads-host (f .tlsa2)) (f .tlsa1))
   reads-address AliasFirstStepSecure = reads-names (hostName ∷ []) (tried b f AliasFirstStepSecure) (reads-host (f .tlsa1))
   reads-address AliasFirstStepInsecure = reads-names [] [] (reads-connect nothing)
   reads-address Failed = refl

@@ -80,7 +80,7 @@ offeredOf n = cond (eqb n 0) none (some (eqb n 1))
 abbrev pub outcomeOf : ℕ → Option Handshake
 outcomeOf n = cond (eqb n 0) none (some (cond (eqb n 1) established failed))
 
--- m where the test holds, else nothing is given
+-- a where the test holds, else nothing is given
 abbrev pub when : {A : Type 0} → Bool → A → Option A
 when t a = cond t (some a) none
 

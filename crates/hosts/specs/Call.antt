@@ -98,13 +98,13 @@ checked [] answer = answer
 checked (c ∷ cs) answer = cond (c .passes) (checked cs answer) (refused (c .refusal))
 
 -- what the walk comes to: its verdict; or the question of the first missing fact, 66 where a later one is given. n is how many TLSA answers it read
-abbrev pub told : Facts → ℕ → Outcome → HostAnswer
-told g n (final v) = record { number = v; «tlsa_questions» = n }
-told g n (missing q) = cond (later (q .fact) g) (refused 66) (record { number = q .number; «tlsa_questions» = n })
+abbrev pub outcomeAnswer : Facts → ℕ → Outcome → HostAnswer
+outcomeAnswer g n (final v) = record { number = v; «tlsa_questions» = n }
+outcomeAnswer g n (missing q) = cond (later (q .fact) g) (refused 66) (record { number = q .number; «tlsa_questions» = n })
 
 -- the answer of the rules on the facts given
 abbrev pub walked : Facts → HostAnswer
-walked g = told g (answersRead (rules (g .base)) g) (walk (rules (g .base)) g)
+walked g = outcomeAnswer g (answersRead (rules (g .base)) g) (walk (rules (g .base)) g)
 
 -- the answer of the call
 unfoldable pub hostAnswer : Arguments → HostAnswer

@@ -100,15 +100,15 @@ authenticate b s =
     (verdict 2)
 
 -- handshake failed: 25 if anything is needed, else 1
-abbrev pub shaken : Base → Taken → Handshake → Rules
-shaken b s established = authenticate b s
-shaken b s failed = verdict (cond (needsAnything b s) 25 1)
+abbrev pub afterHandshake : Base → Taken → Handshake → Rules
+afterHandshake b s established = authenticate b s
+afterHandshake b s failed = verdict (cond (needsAnything b s) 25 1)
 
 -- STARTTLS not offered: 24 if anything is needed, else 1
 abbrev pub connect : Base → Taken → Rules
 connect b s =
     ask 10 starttls (λ offered. cond offered
-    (ask 11 handshake (shaken b s))
+    (ask 11 handshake (afterHandshake b s))
     (verdict (cond (needsAnything b s) 24 1)))
 
 -- the TLSA base domain of a name to try
@@ -117,15 +117,15 @@ domainOf b expandedName = b .expanded
 domainOf b hostName = b .host
 
 -- an answer read: 22; or its set is taken and no more is asked; or the next name
-abbrev pub heed : Base → List ℕ → List (List ℕ) → Rules → Read → Rules
-heed b domain records next R.LookupFailed = verdict 22
-heed b domain records next (R.Taken n) = connect b (set domain records)
-heed b domain records next R.NextName = next
+abbrev pub afterAnswer : Base → List ℕ → List (List ℕ) → Rules → Read → Rules
+afterAnswer b domain records next R.LookupFailed = verdict 22
+afterAnswer b domain records next (R.Taken n) = connect b (set domain records)
+afterAnswer b domain records next R.NextName = next
 
 -- the names to try, from a place on; after the last, there is no set
 abbrev pub seek : Base → Place → List TlsaName → Rules
 seek b place [] = connect b nothing
-seek b place (n ∷ ns) = ask (questionOf n) (tlsa place) (λ a. heed b (domainOf b n) (secureRecords a) (seek b second ns) (readOf a))
+seek b place (n ∷ ns) = ask (questionOf n) (tlsa place) (λ a. afterAnswer b (domainOf b n) (secureRecords a) (seek b second ns) (readOf a))
 
 -- 20, 21 by the address result; 23 only under a live enforce policy, when none of its patterns matches the host
 abbrev pub start : Base → NamesOrVerdict → Rules

@@ -116,14 +116,14 @@ abbrev pub noSet : ℕ → Stage
 noSet n = S.Connect (record { needs = N.Nothing; expanded = false; second = false; questions = n })
 
 -- an answer that was read, at the expanded name or not, as the second or not, the n-th in all: 22; its set; or what is next
-unfoldable pub heeded : (expanded second : Bool) (n : ℕ) (next : Stage) → Read → Stage
-heeded expanded second n next R.LookupFailed = S.Answered (saying 22 n)
-heeded expanded second n next (R.Taken d) = S.Connect (record { needs = d; expanded = expanded; second = second; questions = n })
-heeded expanded second n next R.NextName = next
+unfoldable pub readStage : (expanded second : Bool) (n : ℕ) (next : Stage) → Read → Stage
+readStage expanded second n next R.LookupFailed = S.Answered (saying 22 n)
+readStage expanded second n next (R.Taken d) = S.Connect (record { needs = d; expanded = expanded; second = second; questions = n })
+readStage expanded second n next R.NextName = next
 
 -- the answer at the host name, read as the first or the second, with n read before it
 unfoldable pub hostRead : (second : Bool) (n : ℕ) → Read → Stage
-hostRead second n r = heeded false second (n + 1) (noSet (n + 1)) r
+hostRead second n r = readStage false second (n + 1) (noSet (n + 1)) r
 
 unfoldable pub atHost : (second : Bool) (n : ℕ) (later : Bool) → MaybeRead → Stage
 atHost second n later NotGiven = S.Answered (asking 14 n later)
@@ -131,7 +131,7 @@ atHost second n later (Is r) = hostRead second n r
 
 -- the answer at the expanded name, which is the first, and then at the host name
 unfoldable pub expandedRead : (later : Bool) → MaybeRead → Read → Stage
-expandedRead later y r = heeded true false 1 (atHost true 1 later y) r
+expandedRead later y r = readStage true false 1 (atHost true 1 later y) r
 
 unfoldable pub atExpanded : (laterThanFirst laterThanSecond : Bool) → (first second : MaybeRead) → Stage
 atExpanded f s NotGiven y = S.Answered (asking 13 0 f)

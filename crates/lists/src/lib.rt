@@ -106,7 +106,7 @@ fn is_same_eight(a: &[u8], b: &[u8], i: usize) -> bool
     x == y
 }
 
-// Whether a and b are the same bytes from i on.
+// Whether a and b are the same bytes from the place `from` on.
 fn equal_from(a: &[u8], b: &[u8], from: usize) -> bool
     requires { ⌜ (from ≤ length (now a)) × (length (now a) ≡ length (now b)) ⌝ }
     ensures { λ r. ⌜ r ≡ sameBytes (drop from (now (a .entry))) (drop from (now (b .entry))) ⌝ }
@@ -183,7 +183,7 @@ pub fn equal_long(a: &[u8], b: &[u8]) -> bool
     equal(&a[i..], &b[i..])
 }
 
-// Whether a and b are the same text from i on, ignoring ASCII case.
+// Whether a and b are the same text from the place `from` on, ignoring ASCII case.
 fn equal_ignoring_case_from(a: &[u8], b: &[u8], from: usize) -> bool
     requires { ⌜ (from ≤ length (now a)) × (length (now a) ≡ length (now b)) ⌝ }
     ensures { λ r. ⌜ r ≡ sameText (drop from (now (a .entry))) (drop from (now (b .entry))) ⌝ }

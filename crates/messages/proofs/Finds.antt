@@ -23,7 +23,7 @@ use Rattle.lists.proofs.All.{all-more}
 use Rattle.lists.proofs.Laws.{drop-next}
 use Rattle.messages.proofs.Arrays.{all-fails, no-verdict}
 use Rattle.messages.proofs.Order.{before-facts, hosts-ordered, hosts-next, hosts-end}
-use Rattle.messages.proofs.Ways.{verdict-next, with-next}
+use Rattle.messages.proofs.Returns.{verdict-next, with-next}
 
 -- the first host of a list that is not a "next host"
 unfoldable firstIn : List Host → Decider

@@ -2,6 +2,6 @@ pub mod Arrays
 pub mod Order
 pub mod Unique
 pub mod Finds
-pub mod Ways
+pub mod Returns
 pub mod Decision
 mod Worked

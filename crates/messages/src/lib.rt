@@ -153,8 +153,8 @@ pub fn first_host(preferences: [u16; 32], verdicts: [u8; 32], count: usize) -> M
     walk_hosts(preferences, verdicts, count)
 }
 
-// The answer of two lists of `count` numbers. They are read once, and go into arrays as far as they fit there: a number that does not is no preference, or no verdict.
-// The numbers of the next host are read at the end of a turn: so the four bytes of each are one load, which the tests would take apart.
+// The answer of two lists of `count` numbers, which are read into two arrays. A number that doesn't fit there is no preference, or no verdict: 63.
+// Each pair of numbers is read at the end of the turn before, since the compiler then reads the four bytes of a number by one instruction: right before the tests it would read them one by one.
 fn read_hosts(preferences: &[u8], verdicts: &[u8], count: usize) -> MessageAnswer
     requires { ⌜ (count ≡ length (numbers (now preferences))) × (count ≡ length (numbers (now verdicts))) × (0 < count) × (count ≤ 32) ⌝ }
     ensures { λ r. ⌜ r ≡ messageAnswer (numbers (now (preferences .entry))) (numbers (now (verdicts .entry))) ⌝ }

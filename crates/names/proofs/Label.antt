@@ -1,4 +1,4 @@
--- The ways out of `is_label_byte`: small letters first, then the dot. Assumes nothing.
+-- The returns of `is_label_byte`: small letters first, then the dot. Assumes nothing.
 use Prim.Native.Nat.{ℕ, _<_, _≤_}
 use mathlib.Core.Path.{_≡_, refl}
 use mathlib.Core.Bool.{false, and-false, or-false}

@@ -1,4 +1,4 @@
--- The ways out of `covers`, `matches` and `is_pattern`. Assumes nothing.
+-- The returns of `covers`, `matches` and `is_pattern`. Assumes nothing.
 use Prim.Native.Nat.{ℕ, _+_, _-_, _<_, _≤_}
 use mathlib.Core.Path.{_≡_, refl, sym, _∙_}
 use mathlib.Core.Bool.{Bool, true, false, cond, _&&_, and-true, and-false, or-false}

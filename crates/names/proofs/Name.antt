@@ -1,4 +1,4 @@
--- `is_name`: a turn of its loop, and its ways out. The loop stands at `start`; e is where `label_end` found the first byte that is of no label. Assumes nothing.
+-- `is_name`: a turn of its loop, and its returns. The loop stands at `start`; e is where `label_end` found the first byte that is of no label. Assumes nothing.
 use Prim.Native.Nat.{ℕ, _+_, _-_, _<_, _≤_}
 use mathlib.Core.Path.{_≡_, refl, sym, _∙_}
 use mathlib.Core.Bool.{Bool, true, false, not, _&&_, and-true, and-false}

@@ -82,7 +82,7 @@ nothing-left : (left a b : ℕ) → left + a ≡ b → eqb left 0 ≡ eqb a b
 nothing-left zero a b h = sym (eq-eqb a b (omega arith))
 nothing-left (suc k) a b h = ne-eqb (suc k) 0 (λ z. omega arith) ∙ sym (ne-eqb a b (λ z. omega arith))
 
--- a loop that counts down what is left of the total: its turn and its ways out; w is what `is_whole` gave
+-- a loop that counts down what is left of the total: its turn and its returns; w is what `is_whole` gave
 module _ (list : List ℕ) (total : ℕ) (w : Bool) (whole : w ≡ isWhole list) where
   pub sums-left-over : w ≡ false → false ≡ sumsTo list total
   unfolding sumsTo

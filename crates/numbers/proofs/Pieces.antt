@@ -17,7 +17,7 @@ use Rattle.lists.proofs.Laws.{drop-next}
 use Rattle.numbers.specs.Numbers.{numbers, isWhole, sum, atMost}
 use Rattle.numbers.specs.Pieces.{cut, sumsTo, pieces, upTo, numbered, endOf}
 
--- `end_of`: its ways out
+-- `end_of`: its returns
 module _ (total at n : ℕ) where
   pub end-outside : total < at → total ≡ endOf total at n
   unfolding endOf

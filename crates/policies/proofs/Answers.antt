@@ -1,4 +1,4 @@
--- The ways out of `read_policy` and `read_policy_for`, and of the functions that they call. Assumes nothing.
+-- The returns of `read_policy` and `read_policy_for`, and of the functions that they call. Assumes nothing.
 use Prim.Native.Nat.{ℕ, _<_, _≤_}
 use mathlib.Core.Path.{_≡_, refl, sym, _∙_}
 use mathlib.Core.Bool.{Bool, true, false, cond, _||_, and-false}
@@ -24,7 +24,7 @@ use Rattle.policies.specs.declared.Checked.{Checked}
 use Rattle.policies.specs.Lines.{lines}
 use Rattle.policies.specs.Fields.{anyNamed, patterns}
 use Rattle.policies.specs.Policy.{incomplete, policy, bodyFault, firstMode, firstAge, hasPatterns, complete, completed, judged, readBody, modeNumber, refused, answerTo, policyAnswer, patternsOf, policyFor}
-use Rattle.policies.specs.Reader.{heldMode, heldAge, holdsMode, modeHeld, seenIn, outcome, checked, accepted, enough, answerIn, answerWith, answerOf, forHost}
+use Rattle.policies.specs.Reader.{heldMode, heldAge, holdsMode, modeHeld, seenIn, outcome, checked, accepted, enough, answerIn, answerWith, seenAnswer, forHost}
 use Rattle.policies.proofs.Same.{none-held, mode-held}
 
 -- `mode_number` and `is_enough`: by each mode
@@ -67,27 +67,27 @@ pub ruleset accept-laws = (accept, needs)
 
 -- `answer`: x is the answer of the call that it ends with
 module _ (r : Seen) (m : ℕ) (x : PolicyAnswer) where
-  pub no-version : r .version ≡ false → x ≡ refused 52 → x ≡ answerOf r m
-  unfolding answerOf answerWith
+  pub no-version : r .version ≡ false → x ≡ refused 52 → x ≡ seenAnswer r m
+  unfolding seenAnswer answerWith
   no-version h e = rw h e
 
   module _ (v : r .version ≡ true) (held : Bool) (k : held ≡ holdsMode (r .mode)) where
-    pub no-mode : held ≡ false → x ≡ refused 52 → x ≡ answerOf r m
-    unfolding answerOf answerWith
+    pub no-mode : held ≡ false → x ≡ refused 52 → x ≡ seenAnswer r m
+    unfolding seenAnswer answerWith
     no-mode h e = rw (v, sym k, h) e
 
     module _ (w : held ≡ true) (mode : Mode) (i : mode ≡ modeHeld (r .mode)) where
-      pub no-age : r .age ≡ MaybeAge.Nothing → x ≡ refused 52 → x ≡ answerOf r m
-      unfolding answerOf answerWith answerIn
+      pub no-age : r .age ≡ MaybeAge.Nothing → x ≡ refused 52 → x ≡ seenAnswer r m
+      unfolding seenAnswer answerWith answerIn
       no-age h e = rw (v, sym k, w, h) e
 
       module _ (age : ℕ) (u : r .age ≡ MaybeAge.Is age) (good : Bool) (g : good ≡ enough mode m) where
-        pub too-few : good ≡ false → x ≡ refused 52 → x ≡ answerOf r m
-        unfolding answerOf answerWith answerIn
+        pub too-few : good ≡ false → x ≡ refused 52 → x ≡ seenAnswer r m
+        unfolding seenAnswer answerWith answerIn
         too-few h e = rw (v, sym k, w, u, sym i, sym g, h) e
 
-        pub complete-good : good ≡ true → x ≡ accepted mode age m → x ≡ answerOf r m
-        unfolding answerOf answerWith answerIn
+        pub complete-good : good ≡ true → x ≡ accepted mode age m → x ≡ seenAnswer r m
+        unfolding seenAnswer answerWith answerIn
         complete-good h e = rw (v, sym k, w, u, sym i, sym g, h) e
 
 pub ruleset answer-laws = (no-version, no-mode, no-age, too-few, complete-good, not-true, not-false, needs)
@@ -148,8 +148,8 @@ module _ (s host : List ℕ) (x : Bool) (a : PolicyAnswer) (r : PolicyFor) where
         go none k = never cc
         go (some f) k = i ∙ rw e (refused-for 51 refl false (x || someMatches (patternsOf s) host))
 
-    pub sound-body : (q : Seen) (m : ℕ) (y : Bool) → c ≡ Checked.Read q m y → a ≡ answerOf q m → r ≡ forHost a y → r ≡ forHost (policyAnswer s) (x || someMatches (patternsOf s) host)
-    unfolding policyAnswer readBody checked judged outcome completed answerOf seenIn patternsOf
+    pub sound-body : (q : Seen) (m : ℕ) (y : Bool) → c ≡ Checked.Read q m y → a ≡ seenAnswer q m → r ≡ forHost a y → r ≡ forHost (policyAnswer s) (x || someMatches (patternsOf s) host)
+    unfolding policyAnswer readBody checked judged outcome completed seenAnswer seenIn patternsOf
     sound-body q m y k e i = rw (le-ltb 65536 (length s) h) (go (bodyFault s) (sym g ∙ k))
       where
         go : (f : Option Fault) → outcome (seenIn (lines s)) (length (patterns (lines s))) (x || someMatches (patterns (lines s)) host) f ≡ Checked.Read q m y → r ≡ forHost (answerTo (judged f (lines s))) (x || someMatches (patterns (lines s)) host)

@@ -1,4 +1,4 @@
--- The ways out of the functions that take a field or a line. Assumes nothing.
+-- The returns of the functions that take a field or a line. Assumes nothing.
 use Prim.Native.Nat.{ℕ, zero, suc, _+_, _-_, _<_, _≤_}
 use mathlib.Core.Path.{_≡_, refl, sym, _∙_}
 use mathlib.Core.Bool.{Bool, true, false, cond, not, _&&_, and-false, and-true}

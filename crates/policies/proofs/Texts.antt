@@ -1,4 +1,4 @@
--- Texts in UTF-8: the ways out of the functions of `utf8`, and that printable bytes are a text. Assumes nothing.
+-- Texts in UTF-8: the returns of the functions of `utf8`, and that printable bytes are a text. Assumes nothing.
 use Prim.Native.Nat.{ℕ, suc, _+_, _-_, _<_, _≤_}
 use mathlib.Core.Path.{_≡_, refl, sym, ap, _∙_}
 use mathlib.Core.Bool.{Bool, true, false, cond, _&&_, _||_, and-false, and-true, or-false, or-self}
@@ -234,7 +234,7 @@ text-plain x (b ∷ []) p = rw p
 text-plain x (b ∷ c ∷ []) p = rw p
 text-plain x (b ∷ c ∷ d ∷ s) p = rw p
 
--- the turns of `is_value`'s loop, and its ways out
+-- the turns of `is_value`'s loop, and its returns
 pub value-plain : (v : List ℕ) (i : ℕ) → isText v ≡ isText (drop i v) → (r : Bool) → i < length v → r ≡ printable (getD v i 0) → r ≡ true → isText v ≡ isText (drop (i + 1) v)
 value-plain v i inv r h g t = inv ∙ rw (drop-next v i h) (text-plain (getD v i 0) (drop (i + 1) v) (sym g ∙ t))
 

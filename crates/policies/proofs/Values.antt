@@ -1,4 +1,4 @@
--- The ways out of the functions that read a name or a value. Assumes nothing.
+-- The returns of the functions that read a name or a value. Assumes nothing.
 use Prim.Native.Nat.{ℕ, _+_, _*_, _-_, _^_, _<_, _≤_}
 use mathlib.Core.Path.{_≡_, refl, sym, ap, _∙_}
 use mathlib.Core.Bool.{Bool, true, false, and-false}
@@ -108,7 +108,7 @@ pub ruleset holds-laws = (holds-enforce, holds-testing, holds-none, holds-nothin
 
 pub ruleset in-laws = (in-enforce, in-testing, in-none, in-nothing, needs)
 
--- `age_of`: its ways out, and a turn of its loop, where d is the digit at i
+-- `age_of`: its returns, and a turn of its loop, where d is the digit at i
 pub age-short : (v : List ℕ) → length v < 1 → MaybeAge.Nothing ≡ heldAge (ageOf v)
 unfolding heldAge ageOf
 age-short v h = rw (lt-leb 1 (length v) h)

@@ -178,8 +178,8 @@ unfoldable pub answerWith : Bool → MaybeMode → MaybeAge → ℕ → PolicyAn
 answerWith version mode age m = cond version (cond (holdsMode mode) (answerIn (modeHeld mode) age m) (refused 52)) (refused 52)
 
 -- the same of all fields together
-unfoldable pub answerOf : Seen → ℕ → PolicyAnswer
-answerOf r m = answerWith (r .version) (r .mode) (r .age) m
+unfoldable pub seenAnswer : Seen → ℕ → PolicyAnswer
+seenAnswer r m = answerWith (r .version) (r .mode) (r .age) m
 
 -- an answer, for a host that is listed or not: a refused body lists none
 unfoldable pub forHost : PolicyAnswer → Bool → PolicyFor

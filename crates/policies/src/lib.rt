@@ -14,7 +14,7 @@ ghost use Rattle.policies.specs.Texts.{printable, isText};
 ghost use Rattle.policies.specs.declared.Checked.{Checked};
 ghost use Rattle.policies.specs.Fields.{modeOf, ageOf, valueOf};
 ghost use Rattle.policies.specs.Policy.{modeNumber, refused, policyAnswer, patternsOf, policyFor};
-ghost use Rattle.policies.specs.Reader.{strippedValue, textEnd, kindOf, heldMode, heldAge, holdsMode, modeHeld, takeVersion, takeMode, takeAge, takeMx, takeField, takeLine, turnAt, checked, enough, accepted, answerOf, forHost};
+ghost use Rattle.policies.specs.Reader.{strippedValue, textEnd, kindOf, heldMode, heldAge, holdsMode, modeHeld, takeVersion, takeMode, takeAge, takeMx, takeField, takeLine, turnAt, checked, enough, accepted, seenAnswer, forHost};
 use fields::Field;
 
 mod utf8;
@@ -76,7 +76,7 @@ pub struct Fault {
     pub offset: u64,
 }
 
-// A mode, or none. It holds no `Mode`, so that it is one byte, which is all that a line that leaves it has to carry on.
+// The first mode that was read so far, or that none was. Its cases stand side by side, and not as a `Mode` inside of it, so that it takes one byte: every line hands it on.
 enum MaybeMode {
     Enforce,
     Testing,
@@ -553,7 +553,7 @@ fn acceptance(mode: Mode, age: u64, count: u64) -> PolicyAnswer
 
 // The answer to a body without a fault, by its fields and the count of its patterns.
 fn answer(seen: Seen, count: u64) -> PolicyAnswer
-    ensures { λ r. ⌜ r ≡ answerOf seen count ⌝ }
+    ensures { λ r. ⌜ r ≡ seenAnswer seen count ⌝ }
 {
     if !seen.version {
         return refusal(INCOMPLETE);

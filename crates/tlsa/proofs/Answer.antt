@@ -1,4 +1,4 @@
--- The ways out of the functions on an answer. L and R are the list of lengths and the records. Assumes nothing.
+-- The returns of the functions on an answer. L and R are the list of lengths and the records. Assumes nothing.
 use Prim.Native.Nat.{ℕ, _<_, _≤_}
 use mathlib.Core.Path.{_≡_, refl, sym, _∙_}
 use mathlib.Core.Bool.{Bool, true, false, cond, _&&_, and-false}
@@ -13,7 +13,7 @@ use Rattle.numbers.specs.Numbers.{numbers, atMost}
 use Rattle.numbers.specs.Pieces.{cut, sumsTo}
 use Rattle.numbers.proofs.Pieces.{cut-count, sizes}
 use Rattle.tlsa.specs.Record.{short, usable}
-use Rattle.tlsa.specs.Answer.{Answer, secure, insecure, absent, failed, recordsOf, answerOf, setFits, answerFits, needsOf, takenOf, readOf, lookupVerdict, verdictOf}
+use Rattle.tlsa.specs.Answer.{Answer, secure, insecure, absent, failed, recordsOf, answerOf, setFits, answerFits, needsOf, takenOf, readOf, lookupVerdict, readVerdict}
 use Rattle.tlsa.specs.declared.Lookup.{Lookup}
 use Rattle.tlsa.specs.declared.Needs.{Needs}
 use Rattle.tlsa.specs.declared.Read.{Read}
@@ -73,11 +73,11 @@ pub ruleset needs-laws = (needs-nothing, needs-tls, needs-authentication, not-tr
 pub ruleset secure-laws = (read-malformed, read-next, read-taken, not-true, not-false, needs)
 
 -- the verdict on what was read is that on the answer
-pub read-verdict : (a : Answer) → verdictOf (readOf a) ≡ lookupVerdict a
+pub read-verdict : (a : Answer) → readVerdict (readOf a) ≡ lookupVerdict a
 unfolding readOf takenOf lookupVerdict any
 read-verdict (secure set) = go (any short set) set
   where
-    go : (t : Bool) (set : List (List ℕ)) → verdictOf (cond t Read.LookupFailed (takenOf set)) ≡ cond t (some 22) none
+    go : (t : Bool) (set : List (List ℕ)) → readVerdict (cond t Read.LookupFailed (takenOf set)) ≡ cond t (some 22) none
     go true set = refl
     go false [] = refl
     go false (r ∷ set) = refl
@@ -91,7 +91,7 @@ module _ (lookup : Lookup) (L R : List ℕ) where
     pub answer-secure : r ≡ readOf (answerOf lookup L R)
     answer-secure = cc
 
-    pub verdict-secure : verdictOf r ≡ lookupVerdict (answerOf lookup L R)
+    pub verdict-secure : readVerdict r ≡ lookupVerdict (answerOf lookup L R)
     verdict-secure = rw (h, e) (read-verdict (answerOf Lookup.Secure L R))
 
   pub answer-insecure : lookup ≡ Lookup.Insecure → Read.NextName ≡ readOf (answerOf lookup L R)

@@ -1,4 +1,4 @@
--- The ways out of the functions on one record. Assumes nothing.
+-- The returns of the functions on one record. Assumes nothing.
 use Prim.Native.Nat.{ℕ, _-_, _<_, _≤_}
 use mathlib.Core.Path.{_≡_}
 use mathlib.Core.Bool.{Bool, true, false, or-false}

@@ -79,7 +79,7 @@ unfoldable pub lookupVerdict : Answer → Option ℕ
 lookupVerdict a = cond (isFailed a || any short (secureRecords a)) (some 22) none
 
 -- Document 01's verdict for each case of `Read`.
-abbrev pub verdictOf : Read → Option ℕ
-verdictOf LookupFailed = some 22
-verdictOf (Taken needs) = none
-verdictOf NextName = none
+abbrev pub readVerdict : Read → Option ℕ
+readVerdict LookupFailed = some 22
+readVerdict (Taken needs) = none
+readVerdict NextName = none

@@ -3,7 +3,7 @@ ghost use mathlib.Core.Path.{_≡_};
 ghost use Prim.Native.Nat.{_-_};
 ghost use Rattle.lists.specs.Bytes.{any};
 ghost use Rattle.tlsa.specs.Record.{short, isUsage, isSelector, dataFits, usable};
-ghost use Rattle.tlsa.specs.Answer.{recordsOf, answerOf, answerFits, needsOf, readOf, lookupVerdict, verdictOf};
+ghost use Rattle.tlsa.specs.Answer.{recordsOf, answerOf, answerFits, needsOf, readOf, lookupVerdict, readVerdict};
 ghost use Rattle.tlsa.specs.Address.{namesToTry, meaningOf};
 
 // How a TLSA lookup ended. A secure answer has a list of records, perhaps none.
@@ -179,7 +179,7 @@ fn read_secure(lengths: &[u8], records: &[u8]) -> Read
 
 // What reading an answer comes to. The records of an answer that is not secure are not looked at.
 pub fn read_answer(lookup: Lookup, lengths: &[u8], records: &[u8]) -> Read
-    ensures { λ r. ⌜ (r ≡ readOf (answerOf lookup (now (lengths .entry)) (now (records .entry)))) × (verdictOf r ≡ lookupVerdict (answerOf lookup (now (lengths .entry)) (now (records .entry)))) ⌝ }
+    ensures { λ r. ⌜ (r ≡ readOf (answerOf lookup (now (lengths .entry)) (now (records .entry)))) × (readVerdict r ≡ lookupVerdict (answerOf lookup (now (lengths .entry)) (now (records .entry)))) ⌝ }
 {
     match lookup {
         Lookup::Secure => read_secure(lengths, records),

@@ -1,4 +1,4 @@
--- `tweedstork_next_host`: its ways out, what its answers can be, and exactly when each is given. Assumes nothing.
+-- `tweedstork_next_host`: its returns, what its answers can be, and exactly when each is given. Assumes nothing.
 use Prim.Native.Nat.{ℕ}
 use mathlib.Core.Path.{_≡_, refl, sym, _∙_}
 use mathlib.Core.Bool.{Bool, true, false, cond, not, _&&_, _||_}

@@ -1,4 +1,4 @@
--- The ways out of the functions that answer for a text: `is_id`, `has_form`, `with_id` and `grade`. Assumes nothing.
+-- The returns of the functions that answer for a text: `is_id`, `has_form`, `with_id` and `read_record`. Assumes nothing.
 use Prim.Native.Nat.{ℕ, _+_, _-_, _<_, _≤_}
 use mathlib.Core.Path.{_≡_, refl, sym, ap, subst, _∙_}
 use mathlib.Core.Bool.{Bool, true, false, cond, _&&_, and-false, and-true}
@@ -22,7 +22,7 @@ use Rattle.txt.specs.declared.TxtAnswer.{TxtAnswer}
 use Rattle.txt.specs.declared.Step.{Step}
 use Rattle.txt.specs.Paper.{isId}
 use Rattle.txt.specs.Grammar.{version, nameOf, afterName, valueOf, oneMore, fieldsOf, firstNamed, withId, idAmong, idField}
-use Rattle.txt.specs.Txt.{refusal, graded}
+use Rattle.txt.specs.Txt.{refusal, recordAnswer}
 use Rattle.txt.specs.Steps.{StepIs, FieldIs, hasForm, idAnswer}
 
 -- `is_id`
@@ -57,10 +57,10 @@ unfolding idAmong oneMore firstNamed withId hasForm
 among-id f none h = rw (and-false (isId (valueOf f)))
 among-id f (some fs) h = rw (h, and-true (isId (valueOf f)))
 
-graded-cond : (t f : List ℕ) (b : Bool) → graded t (cond b (some f) none) ≡ cond b (record { number = 6; «id_start» = length t - length (afterName f); «id_length» = length (valueOf f) }) (refusal 42)
-unfolding graded
-graded-cond t f true = refl
-graded-cond t f false = refl
+record-cond : (t f : List ℕ) (b : Bool) → recordAnswer t (cond b (some f) none) ≡ cond b (record { number = 6; «id_start» = length t - length (afterName f); «id_length» = length (valueOf f) }) (refusal 42)
+unfolding recordAnswer
+record-cond t f true = refl
+record-cond t f false = refl
 
 -- what a step says
 module _ (t : List ℕ) (at : ℕ) (r : Step) (is : StepIs t at r) where
@@ -105,36 +105,36 @@ module _ (t : List ℕ) (at : ℕ) (r : Step) (is : StepIs t at r) where
     pub form-next : (a e v : ℕ) → r ≡ Step.Field a e v → hasForm (fieldsOf (drop from t)) ≡ hasForm (fieldsOf (drop v t))
     form-next a e v q = cc (facts a e v q .fields, form-more (drop a t) (fieldsOf (drop v t)))
 
-  -- `grade`
+  -- `read_record`
   module _ (inv : idField t ≡ idAmong (fieldsOf (drop at t))) where
-    pub grade-end : r ≡ Step.End → (x : TxtAnswer) → x ≡ refusal 42 → x ≡ graded t (idField t)
-    unfolding graded
-    grade-end q x e = let i : idField t ≡ none = inv ∙ (ap idAmong (fields-end q) ∙ among-none) in e ∙ rw i
+    pub read-record-end : r ≡ Step.End → (x : TxtAnswer) → x ≡ refusal 42 → x ≡ recordAnswer t (idField t)
+    unfolding recordAnswer
+    read-record-end q x e = let i : idField t ≡ none = inv ∙ (ap idAmong (fields-end q) ∙ among-none) in e ∙ rw i
 
-    pub grade-broken : r ≡ Step.Broken → (x : TxtAnswer) → x ≡ refusal 42 → x ≡ graded t (idField t)
-    unfolding graded idAmong
-    grade-broken q x e = let i : idField t ≡ none = inv ∙ ap idAmong (fields-broken q) in e ∙ rw i
+    pub read-record-broken : r ≡ Step.Broken → (x : TxtAnswer) → x ≡ refusal 42 → x ≡ recordAnswer t (idField t)
+    unfolding recordAnswer idAmong
+    read-record-broken q x e = let i : idField t ≡ none = inv ∙ ap idAmong (fields-broken q) in e ∙ rw i
 
     module _ (a e v : ℕ) (q : r ≡ Step.Field a e v) (named : Bool) (gave : named ≡ sameBytes (take (e - a) (drop a t)) (text "id")) where
       name-gave : named ≡ sameBytes (nameOf (drop a t)) (text "id")
       name-gave = gave ∙ ap (λ (n : List ℕ). sameBytes n (text "id")) (sym (facts a e v q .name))
 
-      pub grade-next : named ≡ false → idField t ≡ idAmong (fieldsOf (drop v t))
-      grade-next f = inv ∙ (ap idAmong (facts a e v q .fields) ∙ among-other (drop a t) (fieldsOf (drop v t)) (sym name-gave ∙ f))
+      pub read-record-next : named ≡ false → idField t ≡ idAmong (fieldsOf (drop v t))
+      read-record-next f = inv ∙ (ap idAmong (facts a e v q .fields) ∙ among-other (drop a t) (fieldsOf (drop v t)) (sym name-gave ∙ f))
 
-      pub grade-id : named ≡ true → (x : TxtAnswer) → x ≡ idAnswer t (e + 1) v → x ≡ graded t (idField t)
+      pub read-record-id : named ≡ true → (x : TxtAnswer) → x ≡ idAnswer t (e + 1) v → x ≡ recordAnswer t (idField t)
       unfolding idAnswer
-      grade-id y x z =
+      read-record-id y x z =
           let i : v ≤ length t = facts a e v q .inside in
           let k : e + 1 < v = facts a e v q .valued in
           let s : length t - length (afterName (drop a t)) ≡ e + 1 = rw (facts a e v q .rest, length-drop (e + 1) t) (omega arith) in
           let l : length (valueOf (drop a t)) ≡ v - (e + 1) = rw (facts a e v q .value) (length-take-le (v - (e + 1)) (drop (e + 1) t) (omega (arith, length-drop (e + 1) t))) in
           let f : idField t ≡ cond (isId (valueOf (drop a t)) && hasForm (fieldsOf (drop v t))) (some (drop a t)) none = inv ∙ (ap idAmong (facts a e v q .fields) ∙ among-id (drop a t) (fieldsOf (drop v t)) (sym name-gave ∙ y)) in
-          z ∙ sym (ap (graded t) f ∙ (graded-cond t (drop a t) (isId (valueOf (drop a t)) && hasForm (fieldsOf (drop v t))) ∙ rw (s, l, facts a e v q .value)))
+          z ∙ sym (ap (recordAnswer t) f ∙ (record-cond t (drop a t) (isId (valueOf (drop a t)) && hasForm (fieldsOf (drop v t))) ∙ rw (s, l, facts a e v q .value)))
 
-pub grade-start : (t : List ℕ) → begins version t ≡ true → idField t ≡ idAmong (fieldsOf (drop 7 t))
+pub read-record-start : (t : List ℕ) → begins version t ≡ true → idField t ≡ idAmong (fieldsOf (drop 7 t))
 unfolding idField
-grade-start t b = rw b
+read-record-start t b = rw b
 
 pub ruleset form-laws = (form-end, form-broken, form-next, field-less, needs)
 

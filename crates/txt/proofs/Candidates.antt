@@ -124,7 +124,7 @@ pub seen-start : (s l : List ℕ) → SeenIs s (candidatesFrom s l 0 0) (candida
 unfolding SeenIs
 seen-start s l = refl
 
--- `find_candidate`: its turns and its ways out
+-- `find_candidate`: its turns and its returns
 module _ (s l : List ℕ) (at k : ℕ) (inv : wireFrom s l 0 0 ≡ wireFrom s l at k) (n : ℕ) (counted : n ≡ length (numbers l)) where
   pub found-left : n ≤ k → at < length s → FoundIs s l Found.Broken
   unfolding FoundIs

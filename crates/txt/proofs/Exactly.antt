@@ -8,7 +8,7 @@ use lib.Dec.{eqb, leb}
 use lib.ListN.{length}
 use Rattle.txt.specs.Rdata.{isWireForm, texts}
 use Rattle.txt.specs.Grammar.{idField}
-use Rattle.txt.specs.Txt.{refused, wrote, candidates, chosen, outcome, graded, grammar, answerOf, readTxt}
+use Rattle.txt.specs.Txt.{refused, wrote, candidates, chosen, outcome, recordAnswer, grammar, txtAnswer, readTxt}
 
 -- of the candidates: none is left
 abbrev pub isNone : List (List ℕ) → Bool
@@ -37,26 +37,26 @@ hasId none = false
 hasId (some f) = true
 
 -- the number n is none of the grammar's
-graded-not : (n : ℕ) → eqb 6 n ≡ false → eqb 42 n ≡ false → (t : List ℕ) (o : Option (List ℕ)) → eqb (graded t o .number) n ≡ false
-unfolding graded
-graded-not n h k t none = k
-graded-not n h k t (some f) = h
+record-not : (n : ℕ) → eqb 6 n ≡ false → eqb 42 n ≡ false → (t : List ℕ) (o : Option (List ℕ)) → eqb (recordAnswer t o .number) n ≡ false
+unfolding recordAnswer
+record-not n h k t none = k
+record-not n h k t (some f) = h
 
-graded-42 : (t : List ℕ) (o : Option (List ℕ)) → eqb (graded t o .number) 42 ≡ not (hasId o)
-unfolding graded
-graded-42 t none = refl
-graded-42 t (some f) = refl
+record-42 : (t : List ℕ) (o : Option (List ℕ)) → eqb (recordAnswer t o .number) 42 ≡ not (hasId o)
+unfolding recordAnswer
+record-42 t none = refl
+record-42 t (some f) = refl
 
 module _ (room : ℕ) where
   -- the answer for some candidates has the number n
   abbrev isNumber : ℕ → List (List ℕ) → Bool
-  isNumber n cs = eqb (answerOf (chosen cs room) .number) n
+  isNumber n cs = eqb (txtAnswer (chosen cs room) .number) n
 
   one-number : (n : ℕ) (t : List ℕ) (x : Bool) → eqb (grammar t .number) n ≡ x → isNumber n (t ∷ []) ≡ cond (fits room t) x (eqb 44 n)
-  unfolding answerOf chosen
+  unfolding txtAnswer chosen
   one-number n t x e = go (fits room t)
     where
-      go : (b : Bool) → eqb (answerOf (cond b (wrote t) (refused 44)) .number) n ≡ cond b x (eqb 44 n)
+      go : (b : Bool) → eqb (txtAnswer (cond b (wrote t) (refused 44)) .number) n ≡ cond b x (eqb 44 n)
       go true = e
       go false = refl
 
@@ -73,33 +73,33 @@ module _ (room : ℕ) where
   both false x = refl
 
   chosen-43 : (cs : List (List ℕ)) → isNumber 43 cs ≡ false
-  unfolding answerOf chosen
+  unfolding txtAnswer chosen
   chosen-43 [] = refl
-  chosen-43 (t ∷ []) = rw (one-number 43 t false (graded-not 43 refl refl t (idField t))) (same (fits room t))
+  chosen-43 (t ∷ []) = rw (one-number 43 t false (record-not 43 refl refl t (idField t))) (same (fits room t))
   chosen-43 (t ∷ u ∷ ts) = refl
 
   chosen-40 : (cs : List (List ℕ)) → isNumber 40 cs ≡ isNone cs
-  unfolding answerOf chosen
+  unfolding txtAnswer chosen
   chosen-40 [] = refl
-  chosen-40 (t ∷ []) = rw (one-number 40 t false (graded-not 40 refl refl t (idField t))) (same (fits room t))
+  chosen-40 (t ∷ []) = rw (one-number 40 t false (record-not 40 refl refl t (idField t))) (same (fits room t))
   chosen-40 (t ∷ u ∷ ts) = refl
 
   chosen-41 : (cs : List (List ℕ)) → isNumber 41 cs ≡ isSeveral cs
-  unfolding answerOf chosen
+  unfolding txtAnswer chosen
   chosen-41 [] = refl
-  chosen-41 (t ∷ []) = rw (one-number 41 t false (graded-not 41 refl refl t (idField t))) (same (fits room t))
+  chosen-41 (t ∷ []) = rw (one-number 41 t false (record-not 41 refl refl t (idField t))) (same (fits room t))
   chosen-41 (t ∷ u ∷ ts) = refl
 
   chosen-44 : (cs : List (List ℕ)) → isNumber 44 cs ≡ oneIs (λ (t : List ℕ). not (fits room t)) cs
-  unfolding answerOf chosen
+  unfolding txtAnswer chosen
   chosen-44 [] = refl
-  chosen-44 (t ∷ []) = rw (one-number 44 t false (graded-not 44 refl refl t (idField t))) (turned (fits room t))
+  chosen-44 (t ∷ []) = rw (one-number 44 t false (record-not 44 refl refl t (idField t))) (turned (fits room t))
   chosen-44 (t ∷ u ∷ ts) = refl
 
   chosen-42 : (cs : List (List ℕ)) → isNumber 42 cs ≡ oneIs (λ (t : List ℕ). fits room t && not (hasId (idField t))) cs
-  unfolding answerOf chosen
+  unfolding txtAnswer chosen
   chosen-42 [] = refl
-  chosen-42 (t ∷ []) = rw (one-number 42 t (not (hasId (idField t))) (graded-42 t (idField t))) (both (fits room t) (not (hasId (idField t))))
+  chosen-42 (t ∷ []) = rw (one-number 42 t (not (hasId (idField t))) (record-42 t (idField t))) (both (fits room t) (not (hasId (idField t))))
   chosen-42 (t ∷ u ∷ ts) = refl
 
 module _ (s l : List ℕ) (room : ℕ) where
@@ -108,19 +108,19 @@ module _ (s l : List ℕ) (room : ℕ) where
   kept = candidates (texts s l)
 
   wire-then : (n : ℕ) (x : Bool) → eqb 43 n ≡ false → isNumber room n kept ≡ x → eqb (readTxt s l room .number) n ≡ (isWireForm s l && x)
-  unfolding readTxt outcome answerOf
+  unfolding readTxt outcome txtAnswer
   wire-then n x h e = go (isWireForm s l)
     where
-      go : (w : Bool) → eqb (answerOf (cond w (chosen kept room) (refused 43)) .number) n ≡ (w && x)
+      go : (w : Bool) → eqb (txtAnswer (cond w (chosen kept room) (refused 43)) .number) n ≡ (w && x)
       go true = e
       go false = h
 
   -- 43: the wire form is broken
   pub exactly-43 : eqb (readTxt s l room .number) 43 ≡ not (isWireForm s l)
-  unfolding readTxt outcome answerOf
+  unfolding readTxt outcome txtAnswer
   exactly-43 = go (isWireForm s l)
     where
-      go : (w : Bool) → eqb (answerOf (cond w (chosen kept room) (refused 43)) .number) 43 ≡ not w
+      go : (w : Bool) → eqb (txtAnswer (cond w (chosen kept room) (refused 43)) .number) 43 ≡ not w
       go true = chosen-43 room kept
       go false = refl
 

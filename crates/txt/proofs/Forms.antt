@@ -1,4 +1,4 @@
--- Laws of the grammar, and what stands at a place of a text: the ways out of `step_at`. Assumes nothing.
+-- Laws of the grammar, and what stands at a place of a text: the returns of `step_at`. Assumes nothing.
 use Prim.Native.Nat.{ℕ, zero, suc, _+_, _-_, _<_, _≤_}
 use mathlib.Core.Path.{_≡_, refl, sym, ap, _∙_}
 use mathlib.Core.Bool.{Bool, true, false, cond, _||_, and-true}
@@ -72,7 +72,7 @@ module _ (s : List ℕ) (some-left : length s ≡ 0 → ⊥) where
       unfolding fieldsOf
       one-field f = one-field-in (length s) f ∙ ap (oneMore (afterDelimiter s)) (fields-enough (length s) (suc (length (afterField (afterDelimiter s)))) (afterField (afterDelimiter s)) (shorter s some-left) (omega arith))
 
--- ---- what stands at the byte `at` of t: the ways out of `step_at`
+-- ---- what stands at the byte `at` of t: the returns of `step_at`
 
 pub step-end : (t : List ℕ) (at : ℕ) → length t ≤ at → StepIs t at Step.End
 unfolding StepIs

@@ -4,7 +4,7 @@ pub mod Candidates
 pub mod ValueMarks
 pub mod Forms
 pub mod Answers
-pub mod Reading
+pub mod CallReturns
 pub mod Places
 pub mod Paper
 pub mod Sanity

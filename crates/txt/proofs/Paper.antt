@@ -22,7 +22,7 @@ use Rattle.fields.specs.Name.{letterOrDigit, nameByte, isFieldName, hasName}
 use Rattle.fields.proofs.Name.{has-whole, has-name, written-before, written-after, written-has}
 use Rattle.txt.specs.Paper.{isBlanks, valueByte, isValue, isId, Pair, Rest, nothing, last, more, firstValue, Record}
 use Rattle.txt.specs.Grammar.{version, hasDelimiter, afterDelimiter, nameOf, afterName, valueOf, afterField, hasField, oneMore, fieldsIn, fieldsOf, firstNamed, idField}
-use Rattle.txt.specs.Txt.{graded, grammar, idPart}
+use Rattle.txt.specs.Txt.{recordAnswer, grammar, idPart}
 use Rattle.txt.proofs.Forms.{fields-none, last-delimiter, one-field}
 use Rattle.txt.proofs.Places.{HasId, has-id, id-has, id-value}
 
@@ -267,18 +267,18 @@ module _ (name : List ℕ) where
       go ih false t k = let n : Named fs v = ih k in record { field = n .field; first = rw t (n .first); value = n .value }
 
 -- the grammar's answer is 6 where there is a field of the id, and 42 else
-pub graded-six : (t : List ℕ) (o : Option (List ℕ)) → graded t o .number ≡ 6 → (f : List ℕ) × (o ≡ some f)
-unfolding graded
-graded-six t none h = absurd (omega arith)
-graded-six t (some f) h = (f, refl)
+pub record-six : (t : List ℕ) (o : Option (List ℕ)) → recordAnswer t o .number ≡ 6 → (f : List ℕ) × (o ≡ some f)
+unfolding recordAnswer
+record-six t none h = absurd (omega arith)
+record-six t (some f) h = (f, refl)
 
 -- what the grammar accepts is a record, and its id is the part that the answer names
 pub accepted : (t : List ℕ) → grammar t .number ≡ 6 → Record t (idPart t (grammar t))
 accepted t h =
-    let g : (f : List ℕ) × (idField t ≡ some f) = graded-six t (idField t) h in
+    let g : (f : List ℕ) × (idField t ≡ some f) = record-six t (idField t) h in
     let f : List ℕ = g .0 in
     let i : HasId t f = has-id t f (g .1) in
-    let v : idPart t (grammar t) ≡ valueOf f = ap (λ (o : Option (List ℕ)). idPart t (graded t o)) (g .1) ∙ (ap (λ (x : List ℕ). idPart x (graded t (some f))) (sym (append-nil t)) ∙ id-value t [] f (g .1)) in
+    let v : idPart t (grammar t) ≡ valueOf f = ap (λ (o : Option (List ℕ)). idPart t (recordAnswer t o)) (g .1) ∙ (ap (λ (x : List ℕ). idPart x (recordAnswer t (some f))) (sym (append-nil t)) ∙ id-value t [] f (g .1)) in
     subst (λ (x : List ℕ). Record t x) (sym v) (record {
       rest = drop 7 t;
       fields = map pair (i .fields);
@@ -290,7 +290,7 @@ accepted t h =
 
 -- every record is accepted, and the part that the answer names is its id
 pub accepts : (t v : List ℕ) → Record t v → (grammar t .number ≡ 6) × (idPart t (grammar t) ≡ v)
-unfolding graded
+unfolding recordAnswer
 accepts t v r =
     let c : Read (r .rest) (r .fields) = complete (r .rest) (r .fields) (r .form) in
     let n : Named (text "id") (c .fields) v = first-value (text "id") (c .fields) v (ap (firstValue (text "id")) (c .pairs) ∙ r .first) in
@@ -303,4 +303,4 @@ accepts t v r =
       id = ap isId (n .value) ∙ r .id;
     } in
     let e : idField t ≡ some f = id-has t f i in
-    (rw e, ap (λ (o : Option (List ℕ)). idPart t (graded t o)) e ∙ (ap (λ (x : List ℕ). idPart x (graded t (some f))) (sym (append-nil t)) ∙ (id-value t [] f e ∙ n .value)))
+    (rw e, ap (λ (o : Option (List ℕ)). idPart t (recordAnswer t o)) e ∙ (ap (λ (x : List ℕ). idPart x (recordAnswer t (some f))) (sym (append-nil t)) ∙ (id-value t [] f e ∙ n .value)))

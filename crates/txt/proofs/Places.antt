@@ -18,7 +18,7 @@ use Rattle.lists.proofs.Bools.{never}
 use Rattle.fields.specs.Blank.{blank}
 use Rattle.txt.specs.Paper.{valueByte, isId}
 use Rattle.txt.specs.Grammar.{version, hasDelimiter, afterDelimiter, nameOf, afterName, valueOf, afterField, hasField, oneMore, fieldsIn, fieldsOf, firstNamed, withId, idAmong, idField}
-use Rattle.txt.specs.Txt.{graded, idPart}
+use Rattle.txt.specs.Txt.{recordAnswer, idPart}
 
 -- ---- what an accepted text has: f is its field of the id
 
@@ -139,8 +139,8 @@ unfolding valueOf
 value-found t d f w = found-again t d (afterName f) (spanOf valueByte (afterName f)) (name-within t f w) (span-le valueByte (afterName f))
 
 -- of an output that begins with an accepted text, the part that the answer names is the value of the field of the id
-pub id-value : (t d f : List ℕ) → idField t ≡ some f → idPart (t ++ d) (graded t (some f)) ≡ valueOf f
-unfolding graded fieldsOf
+pub id-value : (t d f : List ℕ) → idField t ≡ some f → idPart (t ++ d) (recordAnswer t (some f)) ≡ valueOf f
+unfolding recordAnswer fieldsOf
 id-value t d f e =
     let h : HasId t f = has-id t f e in
     value-found t d f (first-within t (text "id") f (suc (length (drop 7 t))) (drop 7 t) (h .fields) (record { place = 7; is = refl }) (h .read) (h .first))

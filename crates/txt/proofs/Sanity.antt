@@ -15,20 +15,20 @@ use Rattle.txt.specs.declared.TxtAnswer.{TxtAnswer}
 use Rattle.txt.specs.Paper.{Record}
 use Rattle.txt.specs.Rdata.{strings, stringsIn, stringsFit, fitIn, isWireForm, texts}
 use Rattle.txt.specs.Grammar.{valueOf, idField}
-use Rattle.txt.specs.Txt.{candidates, Outcome, refused, wrote, chosen, outcome, refusal, graded, grammar, answerOf, outputOf, readTxt, wroteTxt, idPart}
+use Rattle.txt.specs.Txt.{candidates, Outcome, refused, wrote, chosen, outcome, refusal, recordAnswer, grammar, txtAnswer, outputOf, readTxt, wroteTxt, idPart}
 use Rattle.txt.proofs.Strings.{strings-cons, fit-cons}
 use Rattle.txt.proofs.Places.{id-value}
-use Rattle.txt.proofs.Paper.{accepted, accepts, graded-six}
+use Rattle.txt.proofs.Paper.{accepted, accepts, record-six}
 
 -- ---- the number is one of the table: 6, or 40 to 44 with zeros. So it is never zero, and a refusal comes with zeros
 
 unfoldable pub inTable : TxtAnswer → Bool
 inTable r = eqb (r .number) 6 || within 40 44 (r .number) && eqb (r .«id_start») 0 && eqb (r .«id_length») 0
 
-graded-table : (t : List ℕ) (o : Option (List ℕ)) → inTable (graded t o) ≡ true
-unfolding graded inTable
-graded-table t none = refl
-graded-table t (some f) = refl
+record-table : (t : List ℕ) (o : Option (List ℕ)) → inTable (recordAnswer t o) ≡ true
+unfolding recordAnswer inTable
+record-table t none = refl
+record-table t (some f) = refl
 
 -- the outcomes are 43, 40, 41, 44, or a text
 refuses : Outcome → Bool
@@ -64,10 +64,10 @@ one-of n h = go (eqb n 40) refl (eqb n 41) refl (eqb n 43) refl (eqb n 44) refl 
     go false p false q false r true s h = let e : n ≡ 44 = eqb-true n 44 s in rw e
     go false p false q false r false s h = never cc
 
-answer-table : (o : Outcome) → refuses o ≡ true → inTable (answerOf o) ≡ true
-unfolding answerOf refuses
+answer-table : (o : Outcome) → refuses o ≡ true → inTable (txtAnswer o) ≡ true
+unfolding txtAnswer refuses
 answer-table (refused n) h = one-of n h
-answer-table (wrote t) h = graded-table t (idField t)
+answer-table (wrote t) h = record-table t (idField t)
 
 pub read-table : (s l : List ℕ) (room : ℕ) → inTable (readTxt s l room) ≡ true
 unfolding readTxt
@@ -79,10 +79,10 @@ read-table s l room = answer-table (outcome s l room) (outcome-refuses s l room)
 unfoldable pub decided : ℕ → Bool
 decided n = eqb n 6 || eqb n 42
 
-graded-decided : (t : List ℕ) (o : Option (List ℕ)) → decided (graded t o .number) ≡ true
-unfolding graded decided
-graded-decided t none = refl
-graded-decided t (some f) = refl
+record-decided : (t : List ℕ) (o : Option (List ℕ)) → decided (recordAnswer t o .number) ≡ true
+unfolding recordAnswer decided
+record-decided t none = refl
+record-decided t (some f) = refl
 
 not-decided : (n : ℕ) → (eqb n 40 || eqb n 41 || eqb n 43 || eqb n 44) ≡ true → decided n ≡ false
 unfolding decided
@@ -116,7 +116,7 @@ chosen-one (u ∷ v ∷ cs) room t e = never cc
 
 module _ (s l out : List ℕ) where
   answer-wrote : (t : List ℕ) → outcome s l (length out) ≡ wrote t → readTxt s l (length out) ≡ grammar t
-  unfolding readTxt answerOf
+  unfolding readTxt txtAnswer
   answer-wrote t e = rw e
 
   output-wrote : (t : List ℕ) → outcome s l (length out) ≡ wrote t → wroteTxt s l out ≡ t ++ drop (length t) out
@@ -138,15 +138,15 @@ module _ (s l out : List ℕ) where
       }
       go false h k = never cc
 
-  by-outcome : (o : Outcome) → outcome s l (length out) ≡ o → refuses o ≡ true → decided (answerOf o .number) ≡ true → Wrote s l out
-  unfolding answerOf refuses
+  by-outcome : (o : Outcome) → outcome s l (length out) ≡ o → refuses o ≡ true → decided (txtAnswer o .number) ≡ true → Wrote s l out
+  unfolding txtAnswer refuses
   by-outcome (refused n) e h d = let k : decided n ≡ false = not-decided n h in never cc
   by-outcome (wrote t) e h d = outcome-one t e
 
-  kept-outcome : (o : Outcome) → decided (answerOf o .number) ≡ false → outputOf o out ≡ out
-  unfolding answerOf outputOf
+  kept-outcome : (o : Outcome) → decided (txtAnswer o .number) ≡ false → outputOf o out ≡ out
+  unfolding txtAnswer outputOf
   kept-outcome (refused n) d = refl
-  kept-outcome (wrote t) d = let k : decided (grammar t .number) ≡ true = graded-decided t (idField t) in never cc
+  kept-outcome (wrote t) d = let k : decided (grammar t .number) ≡ true = record-decided t (idField t) in never cc
 
   -- 6 and 42 leave the one candidate's text at the front of the output
   pub read-wrote : decided (readTxt s l (length out) .number) ≡ true → Wrote s l out
@@ -174,8 +174,8 @@ module _ (s l out : List ℕ) where
   -- the id is the same part of the text and of the output that begins with it
   same-part : (t d : List ℕ) → grammar t .number ≡ 6 → idPart (t ++ d) (grammar t) ≡ idPart t (grammar t)
   same-part t d h =
-      let g : (f : List ℕ) × (idField t ≡ some f) = graded-six t (idField t) h in
-      let at-all : (x : List ℕ) → idPart (t ++ x) (grammar t) ≡ valueOf (g .0) = λ x. ap (λ (o : Option (List ℕ)). idPart (t ++ x) (graded t o)) (g .1) ∙ id-value t x (g .0) (g .1) in
+      let g : (f : List ℕ) × (idField t ≡ some f) = record-six t (idField t) h in
+      let at-all : (x : List ℕ) → idPart (t ++ x) (grammar t) ≡ valueOf (g .0) = λ x. ap (λ (o : Option (List ℕ)). idPart (t ++ x) (recordAnswer t o)) (g .1) ∙ id-value t x (g .0) (g .1) in
       at-all d ∙ (sym (at-all []) ∙ ap (λ (x : List ℕ). idPart x (grammar t)) (append-nil t))
 
   same-answer : (x y : List ℕ) (r q : TxtAnswer) → x ≡ y → r ≡ q → idPart x r ≡ idPart y q

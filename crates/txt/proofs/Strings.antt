@@ -58,7 +58,7 @@ pub joined-cons : (n : ℕ) (s : List ℕ) → joined (n ∷ s) ≡ take n s ++ 
 unfolding joined flatten
 joined-cons n s = rw (strings-cons n s)
 
--- ---- `is_rdata`: a turn of its loop, and its ways out
+-- ---- `is_rdata`: a turn of its loop, and its returns
 
 module _ (s : List ℕ) where
   pub rdata-empty : length s ≡ 0 → false ≡ isRdata s

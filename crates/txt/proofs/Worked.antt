@@ -17,7 +17,7 @@ use Rattle.txt.specs.declared.TxtAnswer.{TxtAnswer}
 use Rattle.txt.specs.Paper.{valueByte, isId}
 use Rattle.txt.specs.Rdata.{stringsIn, strings, fitIn, stringsFit, isRdata, isWireForm, joined, texts}
 use Rattle.txt.specs.Grammar.{hasDelimiter, afterDelimiter, nameOf, afterName, valueOf, afterField, hasField, oneMore, fieldsIn, fieldsOf, firstNamed, withId, idAmong, idField}
-use Rattle.txt.specs.Txt.{isCandidate, candidates, chosen, outcome, refusal, graded, answerOf, outputOf, readTxt, wroteTxt, idPart}
+use Rattle.txt.specs.Txt.{isCandidate, candidates, chosen, outcome, refusal, recordAnswer, txtAnswer, outputOf, readTxt, wroteTxt, idPart}
 
 -- an RDATA of one character string, and of two
 abbrev one : List ℕ → List ℕ
@@ -31,7 +31,7 @@ accepted start size = record { number = 6; «id_start» = start; «id_length» =
 
 -- a line `unfolding computed` opens all that a call computes by
 computed : ℕ
-unfolding all indexOf spanOf begins agree sameByte numbers listOf isWhole sum cut sumsTo blank letterOrDigit nameByte isFieldName hasName stringsIn strings fitIn stringsFit isRdata isWireForm joined texts flatten hasDelimiter afterDelimiter valueByte nameOf afterName valueOf afterField hasField oneMore fieldsIn fieldsOf firstNamed isId withId idAmong idField graded isCandidate candidates chosen outcome answerOf readTxt outputOf wroteTxt
+unfolding all indexOf spanOf begins agree sameByte numbers listOf isWhole sum cut sumsTo blank letterOrDigit nameByte isFieldName hasName stringsIn strings fitIn stringsFit isRdata isWireForm joined texts flatten hasDelimiter afterDelimiter valueByte nameOf afterName valueOf afterField hasField oneMore fieldsIn fieldsOf firstNamed isId withId idAmong idField recordAnswer isCandidate candidates chosen outcome txtAnswer readTxt outputOf wroteTxt
 computed = 0
 
 -- the call with these RDATAs, and an output of `room` bytes

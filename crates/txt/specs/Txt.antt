@@ -41,18 +41,18 @@ refusal n = record { number = n; «id_start» = 0; «id_length» = 0 }
 
 -- 6 with the place and the length of the id in the text t, by the field of the id: as many bytes stand before its value as t has more than what follows its `=`.
 -- 42 where there is no such field
-unfoldable pub graded : List ℕ → Option (List ℕ) → TxtAnswer
-graded t none = refusal 42
-graded t (some f) = record { number = 6; «id_start» = length t - length (afterName f); «id_length» = length (valueOf f) }
+unfoldable pub recordAnswer : List ℕ → Option (List ℕ) → TxtAnswer
+recordAnswer t none = refusal 42
+recordAnswer t (some f) = record { number = 6; «id_start» = length t - length (afterName f); «id_length» = length (valueOf f) }
 
 -- the grammar's answer for a text
 abbrev pub grammar : List ℕ → TxtAnswer
-grammar t = graded t (idField t)
+grammar t = recordAnswer t (idField t)
 
 -- the answer of a call
-unfoldable pub answerOf : Outcome → TxtAnswer
-answerOf (refused n) = refusal n
-answerOf (wrote t) = grammar t
+unfoldable pub txtAnswer : Outcome → TxtAnswer
+txtAnswer (refused n) = refusal n
+txtAnswer (wrote t) = grammar t
 
 -- the output afterwards: as it was; or the text at its front, and the rest as it was
 unfoldable pub outputOf : Outcome → List ℕ → List ℕ
@@ -61,7 +61,7 @@ outputOf (wrote t) out = t ++ drop (length t) out
 
 -- what `read_txt` answers: the RDATAs one after another, the list of their lengths, and how many bytes the output has
 unfoldable pub readTxt : List ℕ → List ℕ → ℕ → TxtAnswer
-readTxt rdatas lengths room = answerOf (outcome rdatas lengths room)
+readTxt rdatas lengths room = txtAnswer (outcome rdatas lengths room)
 
 -- what `read_txt` leaves in the output, which was `out`
 unfoldable pub wroteTxt : List ℕ → List ℕ → List ℕ → List ℕ

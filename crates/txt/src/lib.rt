@@ -12,7 +12,7 @@ ghost use Rattle.numbers.specs.Pieces.{endOf};
 ghost use Rattle.txt.specs.Paper.{valueByte, isId};
 ghost use Rattle.txt.specs.Rdata.{isRdata, joined};
 ghost use Rattle.txt.specs.Grammar.{version, fieldsOf};
-ghost use Rattle.txt.specs.Txt.{isCandidate, chosen, refusal, grammar, answerOf, outputOf, readTxt, wroteTxt, idPart};
+ghost use Rattle.txt.specs.Txt.{isCandidate, chosen, refusal, grammar, txtAnswer, outputOf, readTxt, wroteTxt, idPart};
 ghost use Rattle.txt.specs.Steps.{KindIs, FoundIs, withOne, StepIs, hasForm, idAnswer};
 use fields::Field;
 
@@ -147,8 +147,8 @@ fn one_more(found: Found, a: usize, e: usize) -> Found
     }
 }
 
-// Looks at the RDATAs once: for their wire form and for the candidates among them. That the list of lengths has no left-over bytes is asked before. The length of the
-// next RDATA is read at the end of a turn: so its four bytes are one load, which tests of the number would take apart.
+// Looks at the RDATAs once: for their wire form and for the candidates among them. The caller has tested that the list of lengths has no left-over bytes.
+// Each length is read at the end of the turn before, since the compiler then reads its four bytes by one instruction: right before the tests it would read them one by one.
 fn find_candidate(rdatas: &[u8], lengths: &[u8]) -> Found
     ensures { λ r. ⌜ FoundIs (now (rdatas .entry)) (now (lengths .entry)) r ⌝ }
 {
@@ -404,7 +404,7 @@ fn with_id(t: &[u8], e: usize, v: usize) -> TxtAnswer
 }
 
 // The grammar's answer for a text that begins with the version.
-fn grade(t: &[u8]) -> TxtAnswer
+fn read_record(t: &[u8]) -> TxtAnswer
     requires { ⌜ begins version (now t) ≡ true ⌝ }
     ensures { λ r. ⌜ r ≡ grammar (now (t .entry)) ⌝ }
 {
@@ -432,7 +432,7 @@ fn grade(t: &[u8]) -> TxtAnswer
 // The answer for the one candidate, whose text goes over the front of the output.
 fn write_one(s: &[u8], output: &mut [u8]) -> TxtAnswer
     requires { ⌜ isCandidate (joined (now s)) ≡ true ⌝ }
-    ensures { λ r. ⌜ r ≡ answerOf (chosen (joined (now (s .entry)) ∷ []) (length (now (output .entry)))) ⌝ }
+    ensures { λ r. ⌜ r ≡ txtAnswer (chosen (joined (now (s .entry)) ∷ []) (length (now (output .entry)))) ⌝ }
     ensures { λ _. ⌜ now (output .exit) ≡ outputOf (chosen (joined (now (s .entry)) ∷ []) (length (now (output .entry)))) (now (output .entry)) ⌝ }
 {
     let n = joined_length(s);
@@ -440,7 +440,7 @@ fn write_one(s: &[u8], output: &mut [u8]) -> TxtAnswer
         return refused(44);
     }
     join(s, output);
-    grade(&output[0..n])
+    read_record(&output[0..n])
 }
 
 // Reads the TXT RDATAs, which stand one after another with these lengths. The text of the one candidate goes over the front of the output; where the call is

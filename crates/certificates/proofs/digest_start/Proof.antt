@@ -1,5 +1,5 @@
 -- `certificates::digest_start` meets its contract. Assumes nothing.
-use Rattle.certificates.proofs.Reading.{digest-start-laws}
+use Rattle.certificates.proofs.FactsReturns.{digest-start-laws}
 use Rattle.certificates.proofs.digest_start.Statement.{statement}
 use Rattle.certificates.proofs.digest_start.Tie as tie
 

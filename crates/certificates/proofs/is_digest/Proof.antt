@@ -1,5 +1,5 @@
 -- `certificates::is_digest` meets its contract. Assumes nothing.
-use Rattle.certificates.proofs.Reading.{digest-laws}
+use Rattle.certificates.proofs.FactsReturns.{digest-laws}
 use Rattle.certificates.proofs.is_digest.Statement.{statement}
 use Rattle.certificates.proofs.is_digest.Tie as tie
 

@@ -2,7 +2,7 @@
 use Prim.Native.Nat.{_-_}
 use mathlib.Core.Path.{_≡_}
 use Rattle.certificates.specs.Steps.{digestOnPath, anyPlace}
-use Rattle.certificates.proofs.Reading.{place-test-laws}
+use Rattle.certificates.proofs.FactsReturns.{place-test-laws}
 use Rattle.certificates.proofs.is_digest_after_leaf.Statement.{statement}
 use Rattle.certificates.proofs.is_digest_after_leaf.Tie as tie
 

@@ -1,5 +1,5 @@
 -- `certificates::is_digest_on_path` meets its contract. Assumes nothing.
-use Rattle.certificates.proofs.Reading.{digest-on-path-laws}
+use Rattle.certificates.proofs.FactsReturns.{digest-on-path-laws}
 use Rattle.certificates.proofs.is_digest_on_path.Statement.{statement}
 use Rattle.certificates.proofs.is_digest_on_path.Tie as tie
 

@@ -1,5 +1,5 @@
 -- `certificates::is_on_path` meets its contract. Assumes nothing.
-use Rattle.certificates.proofs.Reading.{on-path-laws}
+use Rattle.certificates.proofs.FactsReturns.{on-path-laws}
 use Rattle.certificates.proofs.is_on_path.Statement.{statement}
 use Rattle.certificates.proofs.is_on_path.Tie as tie
 

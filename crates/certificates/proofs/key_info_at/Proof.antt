@@ -1,5 +1,5 @@
 -- `certificates::key_info_at` meets its contract. Assumes nothing.
-use Rattle.certificates.proofs.Reading.{key-info-laws}
+use Rattle.certificates.proofs.FactsReturns.{key-info-laws}
 use Rattle.certificates.proofs.key_info_at.Statement.{statement}
 use Rattle.certificates.proofs.key_info_at.Tie as tie
 

@@ -1,5 +1,5 @@
 -- `certificates::key_length` meets its contract. Assumes nothing.
-use Rattle.certificates.proofs.Reading.{place-laws}
+use Rattle.certificates.proofs.FactsReturns.{place-laws}
 use Rattle.certificates.proofs.key_length.Statement.{statement}
 use Rattle.certificates.proofs.key_length.Tie as tie
 

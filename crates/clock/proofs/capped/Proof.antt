@@ -1,5 +1,5 @@
 -- `clock::capped` meets its contract. Assumes nothing.
-use Rattle.clock.proofs.Ways.{capped-laws}
+use Rattle.clock.proofs.Returns.{capped-laws}
 use Rattle.clock.proofs.capped.Statement.{statement}
 use Rattle.clock.proofs.capped.Tie as tie
 

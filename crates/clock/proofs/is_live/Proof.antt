@@ -1,5 +1,5 @@
 -- `clock::is_live` meets its contract. Assumes nothing.
-use Rattle.clock.proofs.Ways.{live-laws}
+use Rattle.clock.proofs.Returns.{live-laws}
 use Rattle.clock.proofs.is_live.Statement.{statement}
 use Rattle.clock.proofs.is_live.Tie as tie
 

@@ -1,5 +1,5 @@
 -- `clock::time_left` meets its contract. Assumes nothing.
-use Rattle.clock.proofs.Ways.{left-laws, accepted-most, lifetime-most}
+use Rattle.clock.proofs.Returns.{left-laws, accepted-most, lifetime-most}
 use Rattle.clock.proofs.time_left.Statement.{statement}
 use Rattle.clock.proofs.time_left.Tie as tie
 

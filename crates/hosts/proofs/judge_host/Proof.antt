@@ -1,5 +1,5 @@
 -- `hosts::judge_host` meets its contract. Assumes nothing.
-use Rattle.hosts.proofs.CallWays.{call-laws}
+use Rattle.hosts.proofs.CallReturns.{call-laws}
 use Rattle.hosts.proofs.judge_host.Statement.{statement}
 use Rattle.hosts.proofs.judge_host.Tie as tie
 

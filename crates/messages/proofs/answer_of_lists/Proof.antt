@@ -1,5 +1,5 @@
 -- `messages::answer_of_lists` meets its contract. Assumes nothing.
-use Rattle.messages.proofs.Ways.{lists-laws}
+use Rattle.messages.proofs.Returns.{lists-laws}
 use Rattle.messages.proofs.answer_of_lists.Statement.{statement}
 use Rattle.messages.proofs.answer_of_lists.Tie as tie
 

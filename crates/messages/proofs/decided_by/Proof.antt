@@ -1,5 +1,5 @@
 -- `messages::decided_by` meets its contract. Assumes nothing.
-use Rattle.messages.proofs.Ways.{decided-laws}
+use Rattle.messages.proofs.Returns.{decided-laws}
 use Rattle.messages.proofs.decided_by.Statement.{statement}
 use Rattle.messages.proofs.decided_by.Tie as tie
 

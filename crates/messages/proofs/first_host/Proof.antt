@@ -1,5 +1,5 @@
 -- `messages::first_host` meets its contract. Assumes nothing.
-use Rattle.messages.proofs.Ways.{first-laws}
+use Rattle.messages.proofs.Returns.{first-laws}
 use Rattle.messages.proofs.first_host.Statement.{statement}
 use Rattle.messages.proofs.first_host.Tie as tie
 

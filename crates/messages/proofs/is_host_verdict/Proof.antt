@@ -1,5 +1,5 @@
 -- `messages::is_host_verdict` meets its contract. Assumes nothing.
-use Rattle.messages.proofs.Ways.{verdict-laws}
+use Rattle.messages.proofs.Returns.{verdict-laws}
 use Rattle.messages.proofs.is_host_verdict.Statement.{statement}
 use Rattle.messages.proofs.is_host_verdict.Tie as tie
 

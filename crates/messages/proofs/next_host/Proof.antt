@@ -1,5 +1,5 @@
 -- `messages::next_host` meets its contract. Assumes nothing.
-use Rattle.messages.proofs.Ways.{next-laws}
+use Rattle.messages.proofs.Returns.{next-laws}
 use Rattle.messages.proofs.next_host.Statement.{statement}
 use Rattle.messages.proofs.next_host.Tie as tie
 

@@ -1,5 +1,5 @@
 -- `messages::with_host` meets its contract. Assumes nothing.
-use Rattle.messages.proofs.Ways.{with-laws}
+use Rattle.messages.proofs.Returns.{with-laws}
 use Rattle.messages.proofs.with_host.Statement.{statement}
 use Rattle.messages.proofs.with_host.Tie as tie
 

@@ -1,5 +1,5 @@
 -- `txt::read_txt` meets its contract. Assumes nothing.
-use Rattle.txt.proofs.Reading.{read-laws}
+use Rattle.txt.proofs.CallReturns.{read-laws}
 use Rattle.txt.proofs.read_txt.Statement.{statement}
 use Rattle.txt.proofs.read_txt.Tie as tie
 

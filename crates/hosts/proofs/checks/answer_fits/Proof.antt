@@ -1,5 +1,5 @@
 -- `hosts::checks::answer_fits` meets its contract. Assumes nothing.
-use Rattle.hosts.proofs.ChecksWays.{answer-laws}
+use Rattle.hosts.proofs.ChecksReturns.{answer-laws}
 use Rattle.hosts.proofs.checks.answer_fits.Statement.{statement}
 use Rattle.hosts.proofs.checks.answer_fits.Tie as tie
 

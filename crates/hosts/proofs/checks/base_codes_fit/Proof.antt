@@ -1,5 +1,5 @@
 -- `hosts::checks::base_codes_fit` meets its contract. Assumes nothing.
-use Rattle.hosts.proofs.ChecksWays.{base-laws}
+use Rattle.hosts.proofs.ChecksReturns.{base-laws}
 use Rattle.hosts.proofs.checks.base_codes_fit.Statement.{statement}
 use Rattle.hosts.proofs.checks.base_codes_fit.Tie as tie
 

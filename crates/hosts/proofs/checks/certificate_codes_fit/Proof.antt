@@ -1,5 +1,5 @@
 -- `hosts::checks::certificate_codes_fit` meets its contract. Assumes nothing.
-use Rattle.hosts.proofs.ChecksWays.{certificate-laws}
+use Rattle.hosts.proofs.ChecksReturns.{certificate-laws}
 use Rattle.hosts.proofs.checks.certificate_codes_fit.Statement.{statement}
 use Rattle.hosts.proofs.checks.certificate_codes_fit.Tie as tie
 

@@ -1,5 +1,5 @@
 -- `hosts::checks::certificates_fit` meets its contract. Assumes nothing.
-use Rattle.hosts.proofs.ChecksWays.{supplied-laws}
+use Rattle.hosts.proofs.ChecksReturns.{supplied-laws}
 use Rattle.hosts.proofs.checks.certificates_fit.Statement.{statement}
 use Rattle.hosts.proofs.checks.certificates_fit.Tie as tie
 

@@ -1,5 +1,5 @@
 -- `hosts::checks::clocks_fit` meets its contract. Assumes nothing.
-use Rattle.hosts.proofs.ChecksWays.{clocks-laws}
+use Rattle.hosts.proofs.ChecksReturns.{clocks-laws}
 use Rattle.hosts.proofs.checks.clocks_fit.Statement.{statement}
 use Rattle.hosts.proofs.checks.clocks_fit.Tie as tie
 

@@ -1,5 +1,5 @@
 -- `hosts::checks::codes_fit` meets its contract. Assumes nothing.
-use Rattle.hosts.proofs.ChecksWays.{codes-laws}
+use Rattle.hosts.proofs.ChecksReturns.{codes-laws}
 use Rattle.hosts.proofs.checks.codes_fit.Statement.{statement}
 use Rattle.hosts.proofs.checks.codes_fit.Tie as tie
 

@@ -1,5 +1,5 @@
 -- `hosts::checks::first_refusal` meets its contract. Assumes nothing.
-use Rattle.hosts.proofs.ChecksWays.{first-laws}
+use Rattle.hosts.proofs.ChecksReturns.{first-laws}
 use Rattle.hosts.proofs.checks.first_refusal.Statement.{statement}
 use Rattle.hosts.proofs.checks.first_refusal.Tie as tie
 

@@ -1,5 +1,5 @@
 -- `hosts::checks::host_fits` meets its contract. Assumes nothing.
-use Rattle.hosts.proofs.ChecksWays.{host-laws}
+use Rattle.hosts.proofs.ChecksReturns.{host-laws}
 use Rattle.hosts.proofs.checks.host_fits.Statement.{statement}
 use Rattle.hosts.proofs.checks.host_fits.Tie as tie
 

@@ -1,5 +1,5 @@
 -- `hosts::checks::host_names_fit` meets its contract. Assumes nothing.
-use Rattle.hosts.proofs.ChecksWays.{names-laws}
+use Rattle.hosts.proofs.ChecksReturns.{names-laws}
 use Rattle.hosts.proofs.checks.host_names_fit.Statement.{statement}
 use Rattle.hosts.proofs.checks.host_names_fit.Tie as tie
 

@@ -1,5 +1,5 @@
 -- `hosts::checks::last_refusal` meets its contract. Assumes nothing.
-use Rattle.hosts.proofs.ChecksWays.{last-laws}
+use Rattle.hosts.proofs.ChecksReturns.{last-laws}
 use Rattle.hosts.proofs.checks.last_refusal.Statement.{statement}
 use Rattle.hosts.proofs.checks.last_refusal.Tie as tie
 

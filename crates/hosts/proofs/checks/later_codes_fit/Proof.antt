@@ -1,5 +1,5 @@
 -- `hosts::checks::later_codes_fit` meets its contract. Assumes nothing.
-use Rattle.hosts.proofs.ChecksWays.{later-laws}
+use Rattle.hosts.proofs.ChecksReturns.{later-laws}
 use Rattle.hosts.proofs.checks.later_codes_fit.Statement.{statement}
 use Rattle.hosts.proofs.checks.later_codes_fit.Tie as tie
 

@@ -1,5 +1,5 @@
 -- `hosts::checks::result_fits` meets its contract. Assumes nothing.
-use Rattle.hosts.proofs.ChecksWays.{supplied-laws}
+use Rattle.hosts.proofs.ChecksReturns.{supplied-laws}
 use Rattle.hosts.proofs.checks.result_fits.Statement.{statement}
 use Rattle.hosts.proofs.checks.result_fits.Tie as tie
 

@@ -1,5 +1,5 @@
 -- `hosts::walk::ask` meets its contract. Assumes nothing.
-use Rattle.hosts.proofs.WalkWays.{ask-laws}
+use Rattle.hosts.proofs.WalkReturns.{ask-laws}
 use Rattle.hosts.proofs.walk.ask.Statement.{statement}
 use Rattle.hosts.proofs.walk.ask.Tie as tie
 

@@ -1,5 +1,5 @@
 -- `hosts::walk::at_certificates` meets its contract. Assumes nothing.
-use Rattle.hosts.proofs.WalkWays.{verdict-laws}
+use Rattle.hosts.proofs.WalkReturns.{verdict-laws}
 use Rattle.hosts.proofs.walk.at_certificates.Statement.{statement}
 use Rattle.hosts.proofs.walk.at_certificates.Tie as tie
 

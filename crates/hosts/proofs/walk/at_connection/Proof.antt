@@ -1,5 +1,5 @@
 -- `hosts::walk::at_connection` meets its contract. Assumes nothing.
-use Rattle.hosts.proofs.WalkWays.{found-laws}
+use Rattle.hosts.proofs.WalkReturns.{found-laws}
 use Rattle.hosts.proofs.walk.at_connection.Statement.{statement}
 use Rattle.hosts.proofs.walk.at_connection.Tie as tie
 

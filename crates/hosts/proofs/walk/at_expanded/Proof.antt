@@ -1,5 +1,5 @@
 -- `hosts::walk::at_expanded` meets its contract. Assumes nothing.
-use Rattle.hosts.proofs.WalkWays.{expanded-laws}
+use Rattle.hosts.proofs.WalkReturns.{expanded-laws}
 use Rattle.hosts.proofs.walk.at_expanded.Statement.{statement}
 use Rattle.hosts.proofs.walk.at_expanded.Tie as tie
 

@@ -1,5 +1,5 @@
 -- `hosts::walk::at_handshake` meets its contract. Assumes nothing.
-use Rattle.hosts.proofs.WalkWays.{handshake-laws}
+use Rattle.hosts.proofs.WalkReturns.{handshake-laws}
 use Rattle.hosts.proofs.walk.at_handshake.Statement.{statement}
 use Rattle.hosts.proofs.walk.at_handshake.Tie as tie
 

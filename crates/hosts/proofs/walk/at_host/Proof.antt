@@ -1,5 +1,5 @@
 -- `hosts::walk::at_host` meets its contract. Assumes nothing.
-use Rattle.hosts.proofs.WalkWays.{host-laws}
+use Rattle.hosts.proofs.WalkReturns.{host-laws}
 use Rattle.hosts.proofs.walk.at_host.Statement.{statement}
 use Rattle.hosts.proofs.walk.at_host.Tie as tie
 

@@ -1,5 +1,5 @@
 -- `hosts::walk::at_names` meets its contract. Assumes nothing.
-use Rattle.hosts.proofs.WalkWays.{names-laws}
+use Rattle.hosts.proofs.WalkReturns.{names-laws}
 use Rattle.hosts.proofs.walk.at_names.Statement.{statement}
 use Rattle.hosts.proofs.walk.at_names.Tie as tie
 

@@ -1,5 +1,5 @@
 -- `hosts::walk::at_starttls` meets its contract. Assumes nothing.
-use Rattle.hosts.proofs.WalkWays.{starttls-laws}
+use Rattle.hosts.proofs.WalkReturns.{starttls-laws}
 use Rattle.hosts.proofs.walk.at_starttls.Statement.{statement}
 use Rattle.hosts.proofs.walk.at_starttls.Tie as tie
 

@@ -1,5 +1,5 @@
 -- `hosts::walk::dane_passes` meets its contract. Assumes nothing.
-use Rattle.hosts.proofs.WalkWays.{needed-laws}
+use Rattle.hosts.proofs.WalkReturns.{needed-laws}
 use Rattle.hosts.proofs.walk.dane_passes.Statement.{statement}
 use Rattle.hosts.proofs.walk.dane_passes.Tie as tie
 

@@ -1,5 +1,5 @@
 -- `hosts::walk::first_stage` meets its contract. Assumes nothing.
-use Rattle.hosts.proofs.WalkWays.{stage-laws}
+use Rattle.hosts.proofs.WalkReturns.{stage-laws}
 use Rattle.hosts.proofs.walk.first_stage.Statement.{statement}
 use Rattle.hosts.proofs.walk.first_stage.Tie as tie
 

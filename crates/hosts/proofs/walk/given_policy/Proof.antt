@@ -1,5 +1,5 @@
 -- `hosts::walk/given_policy` meets its contract. Assumes nothing.
-use Rattle.hosts.proofs.WalkWays.{policy-laws}
+use Rattle.hosts.proofs.WalkReturns.{policy-laws}
 use Rattle.hosts.proofs.walk.given_policy.Statement.{statement}
 use Rattle.hosts.proofs.walk.given_policy.Tie as tie
 

@@ -1,5 +1,5 @@
 -- `hosts::walk/is_unlisted` meets its contract. Assumes nothing.
-use Rattle.hosts.proofs.WalkWays.{unlisted-laws}
+use Rattle.hosts.proofs.WalkReturns.{unlisted-laws}
 use Rattle.hosts.proofs.walk.is_unlisted.Statement.{statement}
 use Rattle.hosts.proofs.walk.is_unlisted.Tie as tie
 

@@ -1,5 +1,5 @@
 -- `hosts::walk::last_verdict` meets its contract. Assumes nothing.
-use Rattle.hosts.proofs.WalkWays.{last-laws}
+use Rattle.hosts.proofs.WalkReturns.{last-laws}
 use Rattle.hosts.proofs.walk.last_verdict.Statement.{statement}
 use Rattle.hosts.proofs.walk.last_verdict.Tie as tie
 

@@ -1,5 +1,5 @@
 -- `hosts::walk::later_given` meets its contract. Assumes nothing.
-use Rattle.hosts.proofs.WalkWays.{later-laws}
+use Rattle.hosts.proofs.WalkReturns.{later-laws}
 use Rattle.hosts.proofs.walk.later_given.Statement.{statement}
 use Rattle.hosts.proofs.walk.later_given.Tie as tie
 

@@ -1,5 +1,5 @@
 -- `hosts::walk::policy_needs` meets its contract. Assumes nothing.
-use Rattle.hosts.proofs.WalkWays.{policy-needs-laws}
+use Rattle.hosts.proofs.WalkReturns.{policy-needs-laws}
 use Rattle.hosts.proofs.walk.policy_needs.Statement.{statement}
 use Rattle.hosts.proofs.walk.policy_needs.Tie as tie
 

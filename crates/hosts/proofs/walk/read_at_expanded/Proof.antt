@@ -1,5 +1,5 @@
 -- `hosts::walk::read_at_expanded` meets its contract. Assumes nothing.
-use Rattle.hosts.proofs.WalkWays.{expanded-read-laws}
+use Rattle.hosts.proofs.WalkReturns.{expanded-read-laws}
 use Rattle.hosts.proofs.walk.read_at_expanded.Statement.{statement}
 use Rattle.hosts.proofs.walk.read_at_expanded.Tie as tie
 

@@ -1,5 +1,5 @@
 -- `hosts::walk::read_at_host` meets its contract. Assumes nothing.
-use Rattle.hosts.proofs.WalkWays.{host-read-laws}
+use Rattle.hosts.proofs.WalkReturns.{host-read-laws}
 use Rattle.hosts.proofs.walk.read_at_host.Statement.{statement}
 use Rattle.hosts.proofs.walk.read_at_host.Tie as tie
 

@@ -1,5 +1,5 @@
 -- `hosts::walk::read_given` meets its contract. Assumes nothing.
-use Rattle.hosts.proofs.WalkWays.{read-laws}
+use Rattle.hosts.proofs.WalkReturns.{read-laws}
 use Rattle.hosts.proofs.walk.read_given.Statement.{statement}
 use Rattle.hosts.proofs.walk.read_given.Tie as tie
 

@@ -1,5 +1,5 @@
 -- `hosts::walk::shows_host` meets its contract. Assumes nothing.
-use Rattle.hosts.proofs.WalkWays.{needed-laws}
+use Rattle.hosts.proofs.WalkReturns.{needed-laws}
 use Rattle.hosts.proofs.walk.shows_host.Statement.{statement}
 use Rattle.hosts.proofs.walk.shows_host.Tie as tie
 

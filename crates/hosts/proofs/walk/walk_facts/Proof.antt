@@ -1,5 +1,5 @@
 -- `hosts::walk::walk_facts` meets its contract. Assumes nothing.
-use Rattle.hosts.proofs.WalkWays.{walk-laws}
+use Rattle.hosts.proofs.WalkReturns.{walk-laws}
 use Rattle.hosts.proofs.walk.walk_facts.Statement.{statement}
 use Rattle.hosts.proofs.walk.walk_facts.Tie as tie
 

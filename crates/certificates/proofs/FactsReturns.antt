@@ -1,4 +1,4 @@
--- The ways out of the functions that read digests, path flags and key places. k is the place of the certificate. Assumes nothing.
+-- The returns of the functions that read digests, path flags and key places. k is the place of the certificate. Assumes nothing.
 use Prim.Native.Nat.{ℕ, suc, _+_, _*_, _-_, _/_, _<_, _≤_}
 use mathlib.Core.Path.{_≡_, sym}
 use mathlib.Core.Bool.{Bool, true, false, _||_}

@@ -30,11 +30,11 @@ use Rattle.hosts.specs.declared.Stage.the-variants as S
 use Rattle.hosts.specs.declared.Connection.the-variants as C
 use Rattle.hosts.specs.Facts.{Base, Handshake, established, failed, Place, first, second, tlsa, certificates, Facts, isGiven, later}
 use Rattle.hosts.specs.Tree.{Rules, verdict, ask, missing, onGiven, walk, answersRead}
-use Rattle.hosts.specs.Rules.{needsMtaSts, isListed, mtaStsPasses, Taken, nothing, set, needs, isAuthentication, needsDane, takenPasses, lastVerdict, connect, heed, seek, start, rules}
+use Rattle.hosts.specs.Rules.{needsMtaSts, isListed, mtaStsPasses, Taken, nothing, set, needs, isAuthentication, needsDane, takenPasses, lastVerdict, connect, afterAnswer, seek, start, rules}
 use Rattle.hosts.specs.Arguments.{Arguments, originOf, addressOf, isAlias, lookupOf, offeredOf, outcomeOf, when, baseOf, presentedIn, factsOf}
-use Rattle.hosts.specs.Call.{told, walked}
-use Rattle.hosts.specs.Stages.{readGiven, laterGiven, saying, noSet, heeded, hostRead, atHost, expandedRead, atExpanded, triesOf, namesStage, firstStage, handshakeStage, connection, certificateVerdict, ended, foundAnswer, reaching, walkAnswer}
-use Rattle.hosts.proofs.WalkWays.{tries-meaning}
+use Rattle.hosts.specs.Call.{outcomeAnswer, walked}
+use Rattle.hosts.specs.Stages.{readGiven, laterGiven, saying, noSet, readStage, hostRead, atHost, expandedRead, atExpanded, triesOf, namesStage, firstStage, handshakeStage, connection, certificateVerdict, ended, foundAnswer, reaching, walkAnswer}
+use Rattle.hosts.proofs.WalkReturns.{tries-meaning}
 
 -- the facts of a call, with what is given
 abbrev facts : Base → (x y : Option Answer) → Option Bool → Option Handshake → Bool → Presented → Facts
@@ -54,7 +54,7 @@ module _ (b : Base) (s : Taken) (x y : Option Answer) (p : Presented) where
       go true false = refl
       go false t = refl
 
-  connect-is : (n : ℕ) (o : Option Bool) (m : Option Handshake) (t : Bool) → told (facts b x y o m t p) n (walk (connect b s) (facts b x y o m t p)) ≡ ended n (lastVerdict (needsDane s) (needsMtaSts b) (takenPasses b s p) (mtaStsPasses b p)) (connection n (needs s) (needsMtaSts b) o m t)
+  connect-is : (n : ℕ) (o : Option Bool) (m : Option Handshake) (t : Bool) → outcomeAnswer (facts b x y o m t p) n (walk (connect b s) (facts b x y o m t p)) ≡ ended n (lastVerdict (needsDane s) (needsMtaSts b) (takenPasses b s p) (mtaStsPasses b p)) (connection n (needs s) (needsMtaSts b) o m t)
   unfolding connection handshakeStage
   connect-is n none m true = refl
   connect-is n none m false = refl
@@ -64,7 +64,7 @@ module _ (b : Base) (s : Taken) (x y : Option Answer) (p : Presented) where
   connect-is n (some true) (some failed) t = refl
   connect-is n (some true) (some established) t = go (needsDane s || needsMtaSts b) t
     where
-      go : (k t : Bool) → told (facts b x y (some true) (some established) t p) n (walk (cond k (ask 12 certificates (λ q. verdict (lastVerdict (needsDane s) (needsMtaSts b) (takenPasses b s q) (mtaStsPasses b q)))) (verdict 2)) (facts b x y (some true) (some established) t p)) ≡ ended n (lastVerdict (needsDane s) (needsMtaSts b) (takenPasses b s p) (mtaStsPasses b p)) (cond k (cond t C.Certificates (C.Answered (saying 12 n))) (C.Answered (saying 2 n)))
+      go : (k t : Bool) → outcomeAnswer (facts b x y (some true) (some established) t p) n (walk (cond k (ask 12 certificates (λ q. verdict (lastVerdict (needsDane s) (needsMtaSts b) (takenPasses b s q) (mtaStsPasses b q)))) (verdict 2)) (facts b x y (some true) (some established) t p)) ≡ ended n (lastVerdict (needsDane s) (needsMtaSts b) (takenPasses b s p) (mtaStsPasses b p)) (cond k (cond t C.Certificates (C.Answered (saying 12 n))) (C.Answered (saying 2 n)))
       go true true = refl
       go true false = refl
       go false t = refl
@@ -107,57 +107,57 @@ module _ (n : Numbers) (b : Base) (expanded L1 R1 L2 R2 : List ℕ) (k1 k2 : Boo
   Takes j a = (d : Needs) → readOf a ≡ R.Taken d → (secureRecords a ≡ recordsOf (cond j L2 L1) (cond j R2 R1)) × (needsOf (recordsOf (cond j L2 L1) (cond j R2 R1)) ≡ d)
 
   module _ (oe : originOf (n .origin) ≡ b .origin) (listed : (needsMtaSts b && not (isListed b)) ≡ false) where
-    found-is : (s : Taken) (d : Needs) (i j : Bool) (q : ℕ) → needs s ≡ d → (isAuthentication d ≡ true → takenPasses b s p ≡ danePasses (references (b .origin) (cond i expanded (b .host)) (b .nextHop)) (recordsOf (cond j L2 L1) (cond j R2 R1)) p) → told these q (walk (connect b s) these) ≡ follow (record { needs = d; expanded = i; second = j; questions = q })
+    found-is : (s : Taken) (d : Needs) (i j : Bool) (q : ℕ) → needs s ≡ d → (isAuthentication d ≡ true → takenPasses b s p ≡ danePasses (references (b .origin) (cond i expanded (b .host)) (b .nextHop)) (recordsOf (cond j L2 L1) (cond j R2 R1)) p) → outcomeAnswer these q (walk (connect b s) these) ≡ follow (record { needs = d; expanded = i; second = j; questions = q })
     unfolding foundAnswer certificateVerdict mtaStsPasses
     found-is s d i j q de dp =
         connect-is b s (when k1 a1) (when k2 a2) p q (offeredOf (n .starttls)) (outcomeOf (n .handshake)) (eqb (n .«certificates_given») 1)
         ∙ rw (de, oe, last-same (isAuthentication d) (needsMtaSts b) (isListed b) (takenPasses b s p) (danePasses (references (b .origin) (cond i expanded (b .host)) (b .nextHop)) (recordsOf (cond j L2 L1) (cond j R2 R1)) p) (showsHost (b .host) p) dp listed)
 
     -- after the last name there is no set
-    none-is : (q : ℕ) → told these q (walk (connect b nothing) these) ≡ reaching follow (noSet q)
+    none-is : (q : ℕ) → outcomeAnswer these q (walk (connect b nothing) these) ≡ reaching follow (noSet q)
     none-is q = found-is nothing N.Nothing false false q refl (λ h. apart h)
 
     -- an answer that is read: pre counts the answers up to it, of what is read after it
-    heed-is : (i j : Bool) (pre : ℕ → ℕ) (c : ℕ) → pre 0 ≡ c → (a : Answer) → Takes j a → (domain : List ℕ) → domain ≡ cond i expanded (b .host) → (next : Rules) (nx : Stage) → told these (pre (answersRead next these)) (walk next these) ≡ reaching follow nx → (r : Read) → readOf a ≡ r → told these (pre (answersRead (heed b domain (secureRecords a) next r) these)) (walk (heed b domain (secureRecords a) next r) these) ≡ reaching follow (heeded i j c nx r)
-    unfolding heeded
-    heed-is i j pre c ce a ok domain de next nx h R.LookupFailed re = rw ce
-    heed-is i j pre c ce a ok domain de next nx h (R.Taken d) re =
+    answer-is : (i j : Bool) (pre : ℕ → ℕ) (c : ℕ) → pre 0 ≡ c → (a : Answer) → Takes j a → (domain : List ℕ) → domain ≡ cond i expanded (b .host) → (next : Rules) (nx : Stage) → outcomeAnswer these (pre (answersRead next these)) (walk next these) ≡ reaching follow nx → (r : Read) → readOf a ≡ r → outcomeAnswer these (pre (answersRead (afterAnswer b domain (secureRecords a) next r) these)) (walk (afterAnswer b domain (secureRecords a) next r) these) ≡ reaching follow (readStage i j c nx r)
+    unfolding readStage
+    answer-is i j pre c ce a ok domain de next nx h R.LookupFailed re = rw ce
+    answer-is i j pre c ce a ok domain de next nx h (R.Taken d) re =
         let k = ok d re in
         rw (connect-reads b (set domain (secureRecords a)) (when k1 a1) (when k2 a2) p (offeredOf (n .starttls)) (outcomeOf (n .handshake)) (eqb (n .«certificates_given») 1), ce)
         (found-is (set domain (secureRecords a)) d i j c (rw (k .0) (k .1)) (λ t. rw (de, k .0)))
-    heed-is i j pre c ce a ok domain de next nx h R.NextName re = h
+    answer-is i j pre c ce a ok domain de next nx h R.NextName re = h
 
     -- the host name, at either place
-    host-is : (place : Place) (j : Bool) (pre : ℕ → ℕ) (q : ℕ) → pre 0 ≡ q → pre (1 + 0) ≡ q + 1 → (l : Bool) → later (tlsa place) these ≡ l → (a : Answer) → Takes j a → (k : Bool) → told these (pre (onGiven (when k a) 0 (λ a. 1 + answersRead (heed b (b .host) (secureRecords a) (connect b nothing) (readOf a)) these))) (onGiven (when k a) (missing (record { number = 14; fact = tlsa place })) (λ a. walk (heed b (b .host) (secureRecords a) (connect b nothing) (readOf a)) these)) ≡ reaching follow (atHost j q l (readGiven (when k a)))
+    host-is : (place : Place) (j : Bool) (pre : ℕ → ℕ) (q : ℕ) → pre 0 ≡ q → pre (1 + 0) ≡ q + 1 → (l : Bool) → later (tlsa place) these ≡ l → (a : Answer) → Takes j a → (k : Bool) → outcomeAnswer these (pre (onGiven (when k a) 0 (λ a. 1 + answersRead (afterAnswer b (b .host) (secureRecords a) (connect b nothing) (readOf a)) these))) (onGiven (when k a) (missing (record { number = 14; fact = tlsa place })) (λ a. walk (afterAnswer b (b .host) (secureRecords a) (connect b nothing) (readOf a)) these)) ≡ reaching follow (atHost j q l (readGiven (when k a)))
     unfolding atHost hostRead readGiven
     host-is place j pre q e e1 l le a ok false = rw (e, le)
     host-is place j pre q e e1 l le a ok true =
-        heed-is false j (λ c. pre (1 + c)) (q + 1) e1 a ok (b .host) refl (connect b nothing) (noSet (q + 1))
+        answer-is false j (λ c. pre (1 + c)) (q + 1) e1 a ok (b .host) refl (connect b nothing) (noSet (q + 1))
         (rw (connect-reads b nothing (when k1 a1) (when k2 a2) p (offeredOf (n .starttls)) (outcomeOf (n .handshake)) (eqb (n .«certificates_given») 1), e1) (none-is (q + 1)))
         (readOf a) refl
 
     module _ (ok1 : Takes false a1) (ok2 : Takes true a2) (f s : Bool) (fe : later (tlsa first) these ≡ f) (se : later (tlsa second) these ≡ s) where
       -- the host name, where it is the only one
-      only-is : told these (answersRead (seek b first (hostName ∷ [])) these) (walk (seek b first (hostName ∷ [])) these) ≡ reaching follow (atHost false 0 f (readGiven (when k1 a1)))
+      only-is : outcomeAnswer these (answersRead (seek b first (hostName ∷ [])) these) (walk (seek b first (hostName ∷ [])) these) ≡ reaching follow (atHost false 0 f (readGiven (when k1 a1)))
       only-is = host-is first false (λ c. c) 0 refl refl f fe a1 ok1 k1
 
       -- the host name, after the expanded name
-      next-is : told these (1 + answersRead (seek b second (hostName ∷ [])) these) (walk (seek b second (hostName ∷ [])) these) ≡ reaching follow (atHost true 1 s (readGiven (when k2 a2)))
+      next-is : outcomeAnswer these (1 + answersRead (seek b second (hostName ∷ [])) these) (walk (seek b second (hostName ∷ [])) these) ≡ reaching follow (atHost true 1 s (readGiven (when k2 a2)))
       next-is = host-is second true (λ c. 1 + c) 1 refl refl s se a2 ok2 k2
 
       -- the expanded name, then the host name
-      both-is : b .expanded ≡ expanded → (k : Bool) → told these (onGiven (when k a1) 0 (λ a. 1 + answersRead (heed b (b .expanded) (secureRecords a) (seek b second (hostName ∷ [])) (readOf a)) these)) (onGiven (when k a1) (missing (record { number = 13; fact = tlsa first })) (λ a. walk (heed b (b .expanded) (secureRecords a) (seek b second (hostName ∷ [])) (readOf a)) these)) ≡ reaching follow (atExpanded f s (readGiven (when k a1)) (readGiven (when k2 a2)))
+      both-is : b .expanded ≡ expanded → (k : Bool) → outcomeAnswer these (onGiven (when k a1) 0 (λ a. 1 + answersRead (afterAnswer b (b .expanded) (secureRecords a) (seek b second (hostName ∷ [])) (readOf a)) these)) (onGiven (when k a1) (missing (record { number = 13; fact = tlsa first })) (λ a. walk (afterAnswer b (b .expanded) (secureRecords a) (seek b second (hostName ∷ [])) (readOf a)) these)) ≡ reaching follow (atExpanded f s (readGiven (when k a1)) (readGiven (when k2 a2)))
       unfolding atExpanded expandedRead readGiven
       both-is ee false = rw fe
-      both-is ee true = heed-is true false (λ c. 1 + c) 1 refl a1 ok1 (b .expanded) ee (seek b second (hostName ∷ [])) (atHost true 1 s (readGiven (when k2 a2))) next-is (readOf a1) refl
+      both-is ee true = answer-is true false (λ c. 1 + c) 1 refl a1 ok1 (b .expanded) ee (seek b second (hostName ∷ [])) (atHost true 1 s (readGiven (when k2 a2))) next-is (readOf a1) refl
 
   -- 23 goes before the names
   module _ (oe : originOf (n .origin) ≡ b .origin) (ok1 : Takes false a1) (ok2 : Takes true a2) (f s : Bool) (fe : later (tlsa first) these ≡ f) (se : later (tlsa second) these ≡ s) where
-    listed-is : (u : Bool) → (needsMtaSts b && not (isListed b)) ≡ u → (t : Rules) (x : Stage) → ((needsMtaSts b && not (isListed b)) ≡ false → told these (answersRead t these) (walk t these) ≡ reaching follow x) → told these (answersRead (cond u (verdict 23) t) these) (walk (cond u (verdict 23) t) these) ≡ reaching follow (cond u (S.Answered (saying 23 0)) x)
+    listed-is : (u : Bool) → (needsMtaSts b && not (isListed b)) ≡ u → (t : Rules) (x : Stage) → ((needsMtaSts b && not (isListed b)) ≡ false → outcomeAnswer these (answersRead t these) (walk t these) ≡ reaching follow x) → outcomeAnswer these (answersRead (cond u (verdict 23) t) these) (walk (cond u (verdict 23) t) these) ≡ reaching follow (cond u (S.Answered (saying 23 0)) x)
     listed-is true ue t x h = refl
     listed-is false ue t x h = h ue
 
-    names-are : (t : Tries) → (t ≡ ExpandedThenHost → b .expanded ≡ expanded) → told these (answersRead (start b (meaningOf t)) these) (walk (start b (meaningOf t)) these) ≡ reaching follow (namesStage t (needsMtaSts b && not (isListed b)) f s (readGiven (when k1 a1)) (readGiven (when k2 a2)))
+    names-are : (t : Tries) → (t ≡ ExpandedThenHost → b .expanded ≡ expanded) → outcomeAnswer these (answersRead (start b (meaningOf t)) these) (walk (start b (meaningOf t)) these) ≡ reaching follow (namesStage t (needsMtaSts b && not (isListed b)) f s (readGiven (when k1 a1)) (readGiven (when k2 a2)))
     unfolding namesStage
     names-are AddressFailed ee = refl
     names-are AddressMissing ee = refl

@@ -1,4 +1,4 @@
--- The ways out of `write_one` and `read_txt`: what they answer, and what they leave in the output. Assumes nothing.
+-- The returns of `write_one` and `read_txt`: what they answer, and what they leave in the output. Assumes nothing.
 use Prim.Native.Nat.{ℕ, _+_, _-_, _<_, _≤_}
 use mathlib.Core.Path.{_≡_, refl, sym, ap, subst, _∙_}
 use mathlib.Core.Bool.{Bool, true, false}
@@ -16,7 +16,7 @@ use Rattle.txt.specs.declared.TxtAnswer.{TxtAnswer}
 use Rattle.txt.specs.declared.Found.{Found}
 use Rattle.txt.specs.Rdata.{isWireForm, joined}
 use Rattle.txt.specs.Grammar.{version}
-use Rattle.txt.specs.Txt.{isCandidate, Outcome, refused, wrote, chosen, outcome, refusal, grammar, answerOf, outputOf, readTxt, wroteTxt}
+use Rattle.txt.specs.Txt.{isCandidate, Outcome, refused, wrote, chosen, outcome, refusal, grammar, txtAnswer, outputOf, readTxt, wroteTxt}
 use Rattle.txt.specs.Steps.{OneIs, SeenIs, FoundIs, wireFrom, candidatesFrom}
 use Rattle.txt.proofs.Candidates.{wire-odd, wire-whole, found-start}
 
@@ -32,8 +32,8 @@ module _ (t d : List ℕ) (n : ℕ) (gave : n ≡ length t) where
     unfolding chosen
     no-room = let k : length d < length t = omega arith in rw (lt-leb (length t) (length d) k)
 
-    pub short-answer : (x : TxtAnswer) → x ≡ refusal 44 → x ≡ answerOf (chosen (t ∷ []) (length d))
-    unfolding answerOf
+    pub short-answer : (x : TxtAnswer) → x ≡ refusal 44 → x ≡ txtAnswer (chosen (t ∷ []) (length d))
+    unfolding txtAnswer
     short-answer x e = e ∙ rw no-room
 
     pub short-kept : d ≡ outputOf (chosen (t ∷ []) (length d)) d
@@ -53,8 +53,8 @@ module _ (t d : List ℕ) (n : ℕ) (gave : n ≡ length t) where
     pub long-version : isCandidate t ≡ true → begins version (take (n - 0) (drop 0 out)) ≡ true
     long-version c = rw front (candidate-version t c)
 
-    pub long-answer : (x : TxtAnswer) → x ≡ grammar (take (n - 0) (drop 0 out)) → x ≡ answerOf (chosen (t ∷ []) (length d))
-    unfolding answerOf
+    pub long-answer : (x : TxtAnswer) → x ≡ grammar (take (n - 0) (drop 0 out)) → x ≡ txtAnswer (chosen (t ∷ []) (length d))
+    unfolding txtAnswer
     long-answer x e = e ∙ rw (room, front)
 
     pub long-wrote : out ≡ outputOf (chosen (t ∷ []) (length d)) d
@@ -76,7 +76,7 @@ chosen-none cs room e = rw e
 
 -- a call whose outcome is known
 module _ (s l d : List ℕ) (o : Outcome) (is : outcome s l (length d) ≡ o) where
-  answer-by : answerOf o ≡ readTxt s l (length d)
+  answer-by : txtAnswer o ≡ readTxt s l (length d)
   unfolding readTxt
   answer-by = rw is
 
@@ -85,7 +85,7 @@ module _ (s l d : List ℕ) (o : Outcome) (is : outcome s l (length d) ≡ o) wh
   output-by = rw is
 
 refused-answer : (s l d : List ℕ) (n : ℕ) → outcome s l (length d) ≡ refused n → (x : TxtAnswer) → x ≡ refusal n → x ≡ readTxt s l (length d)
-unfolding answerOf
+unfolding txtAnswer
 refused-answer s l d n is x e = e ∙ answer-by s l d (refused n) is
 
 refused-kept : (s l d : List ℕ) (n : ℕ) → outcome s l (length d) ≡ refused n → d ≡ wroteTxt s l d
@@ -170,7 +170,7 @@ module _ (s l d : List ℕ) (w : Bool) (gave : w ≡ isWhole l) where
       pub one-kept : isCandidate (joined (take (e - a) (drop a s))) ≡ true
       one-kept = is-one .1 .kept
 
-      pub one-answer : (x : TxtAnswer) → x ≡ answerOf (chosen (joined (take (e - a) (drop a s)) ∷ []) (length d)) → x ≡ readTxt s l (length d)
+      pub one-answer : (x : TxtAnswer) → x ≡ txtAnswer (chosen (joined (take (e - a) (drop a s)) ∷ []) (length d)) → x ≡ readTxt s l (length d)
       one-answer x g = g ∙ answer-by s l d (chosen (joined (take (e - a) (drop a s)) ∷ []) (length d)) one
 
       pub one-wrote : (out : List ℕ) → out ≡ outputOf (chosen (joined (take (e - a) (drop a s)) ∷ []) (length d)) d → out ≡ wroteTxt s l d

@@ -25,13 +25,13 @@ use Rattle.certificates.specs.Checks.{references, namesReference, recordMatches
 use Rattle.hosts.specs.Facts.{Base, Handshake, established, Place, first, second, tlsa, starttls, handshake, Facts, Full}
 use Rattle.hosts.specs.Facts as F
 use Rattle.hosts.specs.Tree.{Rules, verdict, ask, verdictOf}
-use Rattle.hosts.specs.Rules.{needsMtaSts, isListed, mtaStsPasses, Taken, nothing, set, needsDane, needsAnything, takenPasses, lastVerdict, authenticate, shaken, connect, heed, seek, start, rules}
+use Rattle.hosts.specs.Rules.{needsMtaSts, isListed, mtaStsPasses, Taken, nothing, set, needsDane, needsAnything, takenPasses, lastVerdict, authenticate, afterHandshake, connect, afterAnswer, seek, start, rules}
 use Rattle.hosts.specs.Arguments.{isAlias}
 use Rattle.hosts.proofs.Pick.{pick, pick-any, pick-passes, pick-all}
 use Rattle.hosts.proofs.Trees.{fill, before, Two, Differ, Matters}
 use Rattle.hosts.proofs.Values.{OkAnswer, OkPresented, Ok, setOf, set-ok, nobody, nobody-ok}
-use Rattle.hosts.proofs.Forged.{showing, showing-ok, showing-host, showing-matches}
-use Rattle.hosts.proofs.Reading.{authentication-is, by-answer}
+use Rattle.hosts.proofs.MadeCertificate.{showing, showing-ok, showing-host, showing-matches}
+use Rattle.hosts.proofs.AnswerCases.{authentication-is, by-answer}
 
 -- a name, of bytes
 abbrev pub OkName : List ℕ → Type 0
@@ -155,11 +155,11 @@ module _ (b : Base) where
       early s f false n h z = apart (ap late z ∙ late-authenticate s f)
 
       matters-connect : (s : Taken) → TakenOk s → Matters Ok (connect b s)
-      matters-connect s k = (fork-10, λ o h. by-cond (Matters Ok) o (λ x. (fork-11, matters-shaken)) (λ x. tt))
+      matters-connect s k = (fork-10, λ o h. by-cond (Matters Ok) o (λ x. (fork-11, matters-handshake)) (λ x. tt))
         where
-          matters-shaken : (m : Handshake) → Unit {0} → Matters Ok (shaken b s m)
-          matters-shaken established h = matters-authenticate s k
-          matters-shaken F.failed h = tt
+          matters-handshake : (m : Handshake) → Unit {0} → Matters Ok (afterHandshake b s m)
+          matters-handshake established h = matters-authenticate s k
+          matters-handshake F.failed h = tt
 
           fork-10 : Two Ok (λ l r. (g : Facts) → Differ Ok (connect b s) (before starttls g) l r)
           fork-10 = record {
@@ -170,7 +170,7 @@ module _ (b : Base) where
             differ = λ g. early s _ (needsAnything b s) 24 refl;
           }
 
-          fork-11 : Two Ok (λ l r. (g : Facts) → Differ Ok (ask 11 handshake (shaken b s)) (before handshake g) l r)
+          fork-11 : Two Ok (λ l r. (g : Facts) → Differ Ok (ask 11 handshake (afterHandshake b s)) (before handshake g) l r)
           fork-11 = record {
             left = setOf absent false nobody;
             right = setOf absent true nobody;
@@ -180,8 +180,8 @@ module _ (b : Base) where
           }
 
       -- the rules after an answer inside the limits
-      matters-heed : (domain : List ℕ) (next : Rules) → OkName domain → Matters Ok next → (a : Answer) → OkAnswer a → Matters Ok (heed b domain (secureRecords a) next (readOf a))
-      matters-heed domain next n s = by-answer b domain next (λ (a : Answer) (t : Rules). OkAnswer a → Matters Ok t)
+      matters-answer : (domain : List ℕ) (next : Rules) → OkName domain → Matters Ok next → (a : Answer) → OkAnswer a → Matters Ok (afterAnswer b domain (secureRecords a) next (readOf a))
+      matters-answer domain next n s = by-answer b domain next (λ (a : Answer) (t : Rules). OkAnswer a → Matters Ok t)
           (λ h. tt) (λ h. s) (λ h. s) (λ h. s) (λ r rs e h. tt) (λ r rs e h. matters-connect (set domain (r ∷ rs)) (n, h))
 
       -- not 22, where every lookup is absent and TLS is not offered
@@ -191,7 +191,7 @@ module _ (b : Base) where
 
       matters-ask : (n : ℕ) (p : Place) (domain : List ℕ) (next : Rules) → OkName domain → Matters Ok next
           → ((g : Facts) → 22 ≡ verdictOf next (fill (before (tlsa p) g) (setOf absent false nobody)) → ⊥)
-          → Matters Ok (ask n (tlsa p) (λ a. heed b domain (secureRecords a) next (readOf a)))
+          → Matters Ok (ask n (tlsa p) (λ a. afterAnswer b domain (secureRecords a) next (readOf a)))
       unfolding readOf
       matters-ask n first domain next m s c = (
         record {
@@ -201,7 +201,7 @@ module _ (b : Base) where
           right-ok = set-ok absent false nobody tt nobody-ok;
           differ = c;
         },
-        matters-heed domain next m s,
+        matters-answer domain next m s,
       )
       matters-ask n second domain next m s c = (
         record {
@@ -211,7 +211,7 @@ module _ (b : Base) where
           right-ok = set-ok absent false nobody tt nobody-ok;
           differ = c;
         },
-        matters-heed domain next m s,
+        matters-answer domain next m s,
       )
 
       matters-host : (p : Place) → Matters Ok (seek b p (hostName ∷ []))

@@ -1,4 +1,4 @@
--- The ways out of the stages of the walk. Assumes nothing.
+-- The returns of the stages of the walk. Assumes nothing.
 use Prim.Native.Nat.{ℕ, _+_}
 use mathlib.Core.Path.{_≡_, refl, sym, _∙_}
 use mathlib.Core.Bool.{Bool, true, false, cond, not, _&&_, _||_}
@@ -21,7 +21,7 @@ use Rattle.tlsa.specs.declared.Read.the-variants as R
 use Rattle.tlsa.specs.declared.Tries.{Tries}
 use Rattle.tlsa.specs.declared.Tries.the-variants.{ExpandedThenHost, HostOnly, NoName, AddressFailed, AddressMissing}
 use Rattle.tlsa.specs.Address.{namesToTry, meaningOf}
-use Rattle.tlsa.specs.Answer.{answerOf, readOf, lookupVerdict, verdictOf, recordsOf}
+use Rattle.tlsa.specs.Answer.{answerOf, readOf, lookupVerdict, readVerdict, recordsOf}
 use Rattle.tlsa.proofs.Meaning.{meaning-one}
 use Rattle.certificates.specs.declared.Origin.{Origin}
 use Rattle.certificates.specs.Facts.{Presented}
@@ -36,7 +36,7 @@ use Rattle.hosts.specs.declared.Connection.{Connection}
 use Rattle.hosts.specs.Facts.{established, failed, isGiven}
 use Rattle.hosts.specs.Rules.{isAuthentication, isTls, lastVerdict}
 use Rattle.hosts.specs.Arguments.{originOf, addressOf, lookupOf, offeredOf, outcomeOf, when}
-use Rattle.hosts.specs.Stages.{noPolicy, givenPolicy, policyNeeds, readGiven, laterGiven, asking, saying, heeded, hostRead, atHost, expandedRead, atExpanded, triesOf, namesStage, firstStage, handshakeStage, connection, certificateVerdict, foundAnswer, walkAnswer}
+use Rattle.hosts.specs.Stages.{noPolicy, givenPolicy, policyNeeds, readGiven, laterGiven, asking, saying, readStage, hostRead, atHost, expandedRead, atExpanded, triesOf, namesStage, firstStage, handshakeStage, connection, certificateVerdict, foundAnswer, walkAnswer}
 
 -- `ask`
 module _ (number n : ℕ) (later : Bool) (x : HostAnswer) where
@@ -88,7 +88,7 @@ module _ (given : Bool) (result : ℕ) (L R : List ℕ) where
   unfolding readGiven
   read-none h = rw h
 
-  pub read-some : given ≡ true → (l : Lookup) → l ≡ lookupOf result → (x : Read) → (x ≡ readOf (answerOf l L R)) × (verdictOf x ≡ lookupVerdict (answerOf l L R)) → MaybeRead.Is x ≡ readGiven (when given (answerOf (lookupOf result) L R))
+  pub read-some : given ≡ true → (l : Lookup) → l ≡ lookupOf result → (x : Read) → (x ≡ readOf (answerOf l L R)) × (readVerdict x ≡ lookupVerdict (answerOf l L R)) → MaybeRead.Is x ≡ readGiven (when given (answerOf (lookupOf result) L R))
   unfolding readGiven
   read-some h l le x e = rw (h, ← le, ← e .0)
 
@@ -115,15 +115,15 @@ pub ruleset later-laws = (later-starttls, later-handshake, later-certificates, n
 module _ (second : Bool) (n : ℕ) where
   module _ (read : Read) where
     pub host-failed : read ≡ R.LookupFailed → (x : HostAnswer) → x ≡ saying 22 (n + 1) → Stage.Answered x ≡ hostRead second n read
-    unfolding hostRead heeded
+    unfolding hostRead readStage
     host-failed h x e = rw (h, e)
 
     pub host-taken : (d : Needs) → read ≡ R.Taken d → Stage.Connect (record { needs = d; expanded = false; second = second; questions = n + 1 }) ≡ hostRead second n read
-    unfolding hostRead heeded
+    unfolding hostRead readStage
     host-taken d h = rw h
 
     pub host-next : read ≡ R.NextName → Stage.Connect (record { needs = Needs.Nothing; expanded = false; second = false; questions = n + 1 }) ≡ hostRead second n read
-    unfolding hostRead heeded
+    unfolding hostRead readStage
     host-next h = rw h
 
   module _ (later : Bool) (given : MaybeRead) where
@@ -143,15 +143,15 @@ pub ruleset host-laws = (host-asked, host-read, needs)
 module _ (later : Bool) (y : MaybeRead) where
   module _ (read : Read) where
     pub expanded-failed : read ≡ R.LookupFailed → (x : HostAnswer) → x ≡ saying 22 1 → Stage.Answered x ≡ expandedRead later y read
-    unfolding expandedRead heeded
+    unfolding expandedRead readStage
     expanded-failed h x e = rw (h, e)
 
     pub expanded-taken : (d : Needs) → read ≡ R.Taken d → Stage.Connect (record { needs = d; expanded = true; second = false; questions = 1 }) ≡ expandedRead later y read
-    unfolding expandedRead heeded
+    unfolding expandedRead readStage
     expanded-taken d h = rw h
 
     pub expanded-next : read ≡ R.NextName → (x : Stage) → x ≡ atHost true 1 later y → x ≡ expandedRead later y read
-    unfolding expandedRead heeded
+    unfolding expandedRead readStage
     expanded-next h x e = rw h e
 
   module _ (f : Bool) (given : MaybeRead) where

@@ -1,4 +1,4 @@
--- The ways out of the crate's functions, each from what the code knows there. Assumes nothing.
+-- The returns of the crate's functions, each from what the code knows there. Assumes nothing.
 use Prim.Native.Nat.{ℕ, _+_, _<_, _≤_}
 use mathlib.Core.Path.{_≡_, refl, sym, ap, _∙_}
 use mathlib.Core.Bool.{Bool, true, false, not, cond, _&&_}

@@ -1,4 +1,4 @@
--- The ways out of the argument checks. Assumes nothing.
+-- The returns of the argument checks. Assumes nothing.
 use Prim.Native.Nat.{ℕ, _<_, _≤_}
 use mathlib.Core.Path.{_≡_, _∙_}
 use mathlib.Core.Bool.{Bool, true, false, _&&_, and-assoc}

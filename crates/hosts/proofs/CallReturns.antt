@@ -1,4 +1,4 @@
--- The ways out of `judge_host`. Assumes nothing.
+-- The returns of `judge_host`. Assumes nothing.
 use Prim.Native.Nat.{ℕ}
 use mathlib.Core.Path.{_≡_, refl, sym, _∙_}
 use mathlib.Core.Bool.{Bool, true, false, cond, not, _&&_, and-true}
@@ -24,7 +24,7 @@ use Rattle.hosts.specs.Rules.{isEnforce, isEnforced, needsMtaSts, patter
 use Rattle.hosts.specs.Arguments.{Arguments, held, baseOf, presentedIn, factsOf}
 use Rattle.hosts.specs.Call.{ifSupplied, codesFit, clocksFit, hostNamesFit, policyFits, answersFit, certificatesFit, checks, refused, walked, hostAnswer}
 use Rattle.hosts.specs.Stages.{firstPart, lastPart, firstRefusal, lastRefusal, noPolicy, givenPolicy, policyNeeds, saying, walkAnswer}
-use Rattle.hosts.proofs.FlatWays.{walk-is}
+use Rattle.hosts.proofs.StagesWalk.{walk-is}
 
 -- the policy, as it is read, needs what the policy of the facts needs
 enforce-is : (m : Mode) → eqb (modeNumber m) 1 ≡ isEnforce m

@@ -11,7 +11,7 @@ use Rattle.tlsa.specs.Record.{short, usable}
 use Rattle.tlsa.specs.Answer.{Answer, secure, insecure, absent, failed, needsOf, takenOf, readOf, secureRecords}
 use Rattle.hosts.specs.Tree.{Rules, verdict}
 use Rattle.hosts.specs.Facts.{Base}
-use Rattle.hosts.specs.Rules.{isAuthentication, isTls, set, connect, heed}
+use Rattle.hosts.specs.Rules.{isAuthentication, isTls, set, connect, afterAnswer}
 
 -- a set needs DANE authentication exactly where it has a usable record, and TLS where it has any
 pub authentication-is : (rs : List (List ℕ)) → isAuthentication (needsOf rs) ≡ any usable rs
@@ -36,10 +36,10 @@ pub by-answer : (b : Base) (domain : List ℕ) (next : Rules) (P : Answer → Ru
     → P failed (verdict 22) → P absent next → P insecure next → P (secure []) next
     → ((r : List ℕ) (rs : List (List ℕ)) → any short (r ∷ rs) ≡ true → P (secure (r ∷ rs)) (verdict 22))
     → ((r : List ℕ) (rs : List (List ℕ)) → any short (r ∷ rs) ≡ false → P (secure (r ∷ rs)) (connect b (set domain (r ∷ rs))))
-    → (a : Answer) → P a (heed b domain (secureRecords a) next (readOf a))
+    → (a : Answer) → P a (afterAnswer b domain (secureRecords a) next (readOf a))
 unfolding readOf takenOf any
 by-answer b domain next P f a i e s t (secure []) = e
-by-answer b domain next P f a i e s t (secure (r ∷ rs)) = by-cond (λ (x : Read). P (secure (r ∷ rs)) (heed b domain (r ∷ rs) next x)) (short r || any short rs) (s r rs) (t r rs)
+by-answer b domain next P f a i e s t (secure (r ∷ rs)) = by-cond (λ (x : Read). P (secure (r ∷ rs)) (afterAnswer b domain (r ∷ rs) next x)) (short r || any short rs) (s r rs) (t r rs)
 by-answer b domain next P f a i e s t insecure = i
 by-answer b domain next P f a i e s t absent = a
 by-answer b domain next P f a i e s t failed = f

@@ -1,4 +1,4 @@
--- The ways out of the functions that have no loop. Assumes nothing.
+-- The returns of the functions that have no loop. Assumes nothing.
 use Prim.Native.Nat.{ℕ, _<_, _≤_}
 use mathlib.Core.Path.{_≡_, refl, sym, _∙_}
 use mathlib.Core.Bool.{Bool, true, false, _||_, and-false, or-false}
