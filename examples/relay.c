@@ -48,6 +48,15 @@ static void learn_tlsa(const struct scenario_tlsa *answer, struct tweedstork_hos
     printf("  network: %s, records: %zu\n", results[answer->result], answer->records.lengths.length / 4);
 }
 
+/* The handshake: the server name to send, and whether ciphers without certificates may be offered. */
+static void say_handshake(const struct tweedstork_host_facts *facts)
+{
+    struct tweedstork_slice name = tweedstork_server_name(facts);
+
+    printf("  relay: server name %.*s, anonymous ciphers: %s\n", (int)name.length, (const char *)name.bytes,
+           tweedstork_certificates_matter(facts) ? "no" : "yes");
+}
+
 /* TLS: what the server showed, and what the relay's TLS library says of it. */
 static void learn_certificates(const struct scenario_host *host, struct tweedstork_host_facts *facts)
 {
@@ -81,6 +90,7 @@ static int learn(uint64_t question, const struct scenario_host *host, struct twe
         printf("  network: %s\n", host->starttls == TWEEDSTORK_STARTTLS_OFFERED ? "offered" : "not offered");
         return 1;
     case TWEEDSTORK_ASK_HANDSHAKE:
+        say_handshake(facts);
         facts->handshake = host->handshake;
         printf("  network: %s\n", host->handshake == TWEEDSTORK_ESTABLISHED ? "established" : "failed");
         return 1;
@@ -161,14 +171,14 @@ static void leave_out(struct hosts *hosts, size_t position)
     memmove(&hosts->verdicts[4 * position], &hosts->verdicts[4 * position + 4], 4 * after);
 }
 
-/* May the refusal come of what the domain or the server sent? The other refusals are mistakes of the relay's own. */
+/* May the refusal come of what the domain or the server sent? Then the relay leaves this host out. */
 static int is_theirs(uint64_t refusal)
 {
     return refusal == TWEEDSTORK_BAD_HOST || refusal == TWEEDSTORK_BAD_TLSA || refusal == TWEEDSTORK_BAD_CERTIFICATES;
 }
 
-/* Tries a host and notes what came of it. Returns 0 where the relay itself made a mistake. */
-static int try_host(const struct scenario *s, struct hosts *hosts, size_t position)
+/* Tries a host and notes what came of it. Returns the verdict or refusal. */
+static uint64_t try_host(const struct scenario *s, struct hosts *hosts, size_t position)
 {
     const struct scenario_host *host = hosts->at[position];
     uint64_t answer;
@@ -179,7 +189,7 @@ static int try_host(const struct scenario *s, struct hosts *hosts, size_t positi
         leave_out(hosts, position);
     else
         tweedstork_put_number(hosts->verdicts, position, (uint32_t)answer);
-    return is_theirs(answer) || answer <= TWEEDSTORK_MTA_STS_MISMATCH;
+    return answer;
 }
 
 /* A message: host after host, until the library names one to deliver to or says to wait. Returns 0 where the relay itself made a mistake. */
@@ -187,6 +197,7 @@ static int deliver(const struct scenario *s)
 {
     struct hosts hosts = {{NULL}, {0}, {0}, s->host_count};
     struct tweedstork_message_answer answer;
+    uint64_t tried = TWEEDSTORK_NOT_TRIED;
 
     for (size_t i = 0; i < hosts.count; i++) {
         hosts.at[i] = &s->hosts[i];
@@ -196,7 +207,13 @@ static int deliver(const struct scenario *s)
     do {
         answer = tweedstork_next_host(s->mx_lookup, hosts.preferences, 4 * hosts.count, hosts.verdicts, 4 * hosts.count);
         printf("library %" PRIu64 ": %s", answer.number, tweedstork_answer_words(answer.number));
-        if (answer.number == TWEEDSTORK_TRY_HOST && !try_host(s, &hosts, (size_t)answer.position))
+        if (answer.number == TWEEDSTORK_TRY_HOST)
+            tried = try_host(s, &hosts, (size_t)answer.position);
+        if (tried == TWEEDSTORK_BAD_NEXT_HOP) { /* of the recipient's address, and so the same for every host */
+            printf("relay: returns the message, since its next-hop is no name\n");
+            return 1;
+        }
+        if (tried > TWEEDSTORK_MTA_STS_MISMATCH && !is_theirs(tried))
             return 0;
     } while (answer.number == TWEEDSTORK_TRY_HOST && hosts.count > 0);
     if (answer.number != TWEEDSTORK_TRY_HOST)

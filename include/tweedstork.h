@@ -9,6 +9,7 @@
  * - it has no resolver, no HTTPS, no TLS, no path checking and no hashing: the relay brings their results, and the answers are
  *   as good as these;
  * - it keeps no policies and asks for no parent domain's policy;
+ * - it does not read the MX answer: null MX and a domain that does not exist are the relay's (see tweedstork_next_host);
  * - it does not read certificates: the relay says where the key info stands and which names and digests there are.
  *
  * Conventions
@@ -145,7 +146,7 @@ enum { TWEEDSTORK_YES = 1, TWEEDSTORK_NO = 2 };
 enum tweedstork_origin {
     TWEEDSTORK_SECURE_MX = 1,
     TWEEDSTORK_INSECURE_MX = 2,
-    TWEEDSTORK_NO_MX = 3                    /* the host is the next-hop itself */
+    TWEEDSTORK_NO_MX = 3                    /* the domain exists and has no MX record: the host is the next-hop itself */
 };
 
 enum tweedstork_address {
@@ -236,8 +237,11 @@ struct tweedstork_host_answer {
  *
  * Takes:   in every call: clock (seconds since 1970), next_hop (the name that the MX lookup was made for), origin of the host
  *          list, host (the name of the host to judge), address (result of its address lookup), expanded (the fully expanded
- *          host name, where the address is an alias), policy_given (TWEEDSTORK_NO_POLICY too where tweedstork_read_policy
- *          refuses the body), policy (the body) and fetched (the clock of its fetch).
+ *          host name, where the address is an alias), policy_given, policy (a body that tweedstork_read_policy accepted) and
+ *          fetched (the clock of its fetch). A TXT record that is missing or refused, a fetch that fails, or a body that
+ *          tweedstork_read_policy refuses never replaces an earlier policy that is still live: the relay goes on giving that
+ *          one, with the clock of its own fetch, until it is stale (RFC 8461, 3.1, 3.3 and 5.1). TWEEDSTORK_NO_POLICY only
+ *          where there is none.
  *          Then, as far as learnt, in this order:
  *          tlsa_answers: how many TLSA answers are given, 0 to 2, in the order asked for; of each its result and, where that
  *          is TWEEDSTORK_TLSA_SECURE, its records: their RDATAs one after another, and a list of their lengths (up to 32
@@ -255,9 +259,14 @@ struct tweedstork_host_answer {
  *          out leads to it; otherwise the question (10 to 14) of the first fact that the rules reach and that is not given.
  *          tlsa_questions is how many of the given TLSA answers the rules read, 0 to 2.
  *          Refusals, in this order: TWEEDSTORK_BAD_CODE, _BAD_CLOCK, _BAD_NEXT_HOP, _BAD_HOST, the policy's (50 to 52),
- *          _BAD_TLSA, _BAD_CERTIFICATES, and last _FACT_MISSING. A refusal is never a permission to deliver. _BAD_HOST,
- *          _BAD_TLSA and _BAD_CERTIFICATES may come of what the domain or the server sent: the relay leaves this host out
- *          and goes on with the others. The other refusals are mistakes of the relay's own.
+ *          _BAD_TLSA, _BAD_CERTIFICATES, and last _FACT_MISSING. A refusal is never a permission to deliver.
+ *          _BAD_HOST, _BAD_TLSA and _BAD_CERTIFICATES may come of what the domain or the server sent: the relay leaves this
+ *          host out and goes on with the others. A server that shows over 8 certificates or over 64 DNS-IDs is refused, even
+ *          where a TLSA record would match; certificate facts that were not asked for (12) are checked too.
+ *          _BAD_NEXT_HOP may come of the recipient's address (user@my_shop.example): it holds for every host, and by these
+ *          rules nobody may be given the message: the relay returns or delays it.
+ *          50 to 52 cannot come where the relay gives only bodies that tweedstork_read_policy accepted. The other refusals
+ *          are mistakes of the relay's own.
  * Leaves:  all memory as it was.
  */
 struct tweedstork_host_answer tweedstork_judge_host(
@@ -299,13 +308,20 @@ struct tweedstork_message_answer {
 /*
  * Which of a message's hosts decides?
  *
+ * Before:  the relay reads the answer of the MX lookup. It returns the message, with no call of this or of
+ *          tweedstork_judge_host, where the domain does not exist (NXDOMAIN; RFC 5321, 5.1), and where it takes no mail (null
+ *          MX: one MX record, with preference 0 and the root as its host; RFC 7505, 3). A domain that exists and has no MX
+ *          record has one host, the next-hop itself, with preference 0 (TWEEDSTORK_NO_MX). An address literal
+ *          (user@[192.0.2.1]) is no name; neither MTA-STS nor DANE speaks of it (RFC 8461, 3.4; RFC 7672, 2.2).
  * Takes:   mx_lookup: TWEEDSTORK_MX_ANSWERED or TWEEDSTORK_MX_FAILED.
- *          preferences: list of numbers, 1 to 32 of them, each 0 to 65,535, a host each.
+ *          preferences: list of numbers, 1 to 32 of them, each 0 to 65,535, a host each. Of more hosts the relay gives the 32
+ *          that come first by preference.
  *          verdicts: list of numbers, one for each host: TWEEDSTORK_NOT_TRIED, or the verdict that it got (1 to 5, 20 to 27).
  * Answers: hosts are taken by preference, lower first, equal ones as given. The first that is no "next host" (20 to 27)
  *          decides: one not tried yet gives TWEEDSTORK_TRY_HOST and its position, a verdict 1 to 5 is handed on with its
  *          position. Positions count from 0 in the lists as given. TWEEDSTORK_NO_HOST_LEFT where every host is a "next
  *          host", TWEEDSTORK_MX_LOOKUP_FAILED where the lookup failed (the lists are then not looked at); position 0 then.
+ *          Before the relay returns a message that a policy held back it has to look for a newer policy (RFC 8461, 5.1).
  *          Refusals: TWEEDSTORK_BAD_CODE, then TWEEDSTORK_BAD_HOST_LIST.
  *          A host that was refused, that could not be connected to, or that did not take the message after all, is the
  *          relay's to leave out of both lists; with none left the relay delays by itself.
@@ -398,6 +414,40 @@ static inline struct tweedstork_host_answer tweedstork_judge_facts(const struct 
         facts->dns_id_lengths.bytes, facts->dns_id_lengths.length,
         facts->common_name_given,
         facts->common_name.bytes, facts->common_name.length);
+}
+
+/*
+ * The name to send in the handshake (SNI), once every TLSA answer asked for is learnt: the TLSA base domain (RFC 7672, 8.1),
+ * which is the expanded name where the TLSA records taken stand there; and else the host, as RFC 8461, 7.1 wants. Where a
+ * policy applies beside records at the expanded name it is still that name: a policy does not interfere with DANE (RFC 8461, 2).
+ */
+static inline struct tweedstork_slice tweedstork_server_name(const struct tweedstork_host_facts *facts)
+{
+    int at_expanded = facts->address == TWEEDSTORK_ALIAS_SECURE && facts->tlsa_answers > 0
+                      && facts->tlsa[0].result == TWEEDSTORK_TLSA_SECURE && facts->tlsa[0].lengths.length > 0;
+
+    return at_expanded ? facts->expanded : facts->host;
+}
+
+/*
+ * Before the handshake: may the verdict still hang on the certificates that the server will show? With 0 the relay may offer
+ * anonymous ciphers (RFC 7672, 8.2) and need not keep the certificates; with 1 it offers none, since a server that has a
+ * certificate may still choose such a cipher, and then shows none (26 or 27).
+ *
+ * 1 where tweedstork_judge_host would ask for certificate facts (12) were the handshake established; and where a TLSA answer is
+ * not learnt yet, since its records may need them. 0 where the verdict is the same whatever the server shows; and where facts
+ * are refused, since no verdict comes of them at all. What the facts say of STARTTLS, handshake and certificates is not read.
+ */
+static inline int tweedstork_certificates_matter(const struct tweedstork_host_facts *facts)
+{
+    struct tweedstork_host_facts established = *facts;
+    uint64_t answer;
+
+    established.starttls = TWEEDSTORK_STARTTLS_OFFERED;
+    established.handshake = TWEEDSTORK_ESTABLISHED;
+    established.certificates_given = TWEEDSTORK_CERTIFICATES_NOT_GIVEN;
+    answer = tweedstork_judge_facts(&established).number;
+    return answer == TWEEDSTORK_ASK_CERTIFICATES || answer == TWEEDSTORK_FACT_MISSING;
 }
 
 #ifdef __cplusplus

@@ -167,6 +167,115 @@ static void hosts(void)
     judged("certificates beside not offered", judge(0, "a.example", TWEEDSTORK_NO_ALIAS_INSECURE, TWEEDSTORK_STARTTLS_NOT_OFFERED, TWEEDSTORK_CERTIFICATES_GIVEN), TWEEDSTORK_CLEARTEXT, 0);
 }
 
+static struct tweedstork_slice text(const char *s)
+{
+    struct tweedstork_slice slice = {(const uint8_t *)s, strlen(s)};
+    return slice;
+}
+
+/* What is known of a host before its handshake, with a policy (or NULL) that was fetched at 1,000 and ends at 605,800. */
+static struct tweedstork_host_facts known(uint64_t address, const char *policy)
+{
+    struct tweedstork_host_facts facts;
+
+    memset(&facts, 0, sizeof facts);
+    facts.clock = 605799;
+    facts.next_hop = text("example.com");
+    facts.origin = TWEEDSTORK_INSECURE_MX;
+    facts.host = text("mail.example.com");
+    facts.address = address;
+    facts.expanded = text("mx.example.net");
+    facts.policy_given = policy == NULL ? TWEEDSTORK_NO_POLICY : TWEEDSTORK_POLICY;
+    facts.policy = text(policy == NULL ? "" : policy);
+    facts.fetched = 1000;
+    return facts;
+}
+
+/* A further TLSA answer with one record, of 35 bytes at most. */
+static void learn_tlsa(struct tweedstork_host_facts *facts, uint64_t result, const char *record, uint8_t length, uint8_t lengths[4])
+{
+    struct tweedstork_tlsa_answer *answer = &facts->tlsa[facts->tlsa_answers++];
+
+    tweedstork_put_number(lengths, 0, length);
+    answer->result = result;
+    answer->lengths.bytes = lengths;
+    answer->lengths.length = 4;
+    answer->records.bytes = (const uint8_t *)record;
+    answer->records.length = length;
+}
+
+/* Do certificates matter, whatever else is given of the handshake? A server that shows none fails just where they do. */
+static void matters(const char *name, struct tweedstork_host_facts facts, int wanted)
+{
+    uint64_t shows_none;
+
+    expect(name, tweedstork_certificates_matter(&facts) == wanted);
+    facts.starttls = TWEEDSTORK_STARTTLS_NOT_OFFERED;
+    facts.handshake = UINT64_MAX;
+    facts.certificates_given = UINT64_MAX;
+    expect(name, tweedstork_certificates_matter(&facts) == wanted);
+    facts.starttls = TWEEDSTORK_STARTTLS_OFFERED;
+    facts.handshake = TWEEDSTORK_ESTABLISHED;
+    facts.certificates_given = TWEEDSTORK_CERTIFICATES_GIVEN;
+    facts.trusted_root = facts.common_name_given = TWEEDSTORK_NO;
+    shows_none = tweedstork_judge_facts(&facts).number;
+    expect(name, wanted == (shows_none == TWEEDSTORK_DANE_MISMATCH || shows_none == TWEEDSTORK_MTA_STS_MISMATCH || shows_none == TWEEDSTORK_FACT_MISSING));
+}
+
+static void certificates_matter(void)
+{
+    static const char enforce[] = "version: STSv1\nmode: enforce\nmx: *.example.com\nmax_age: 604800\n";
+    static const char other[] = "version: STSv1\nmode: enforce\nmx: *.example.org\nmax_age: 604800\n";
+    static const char testing[] = "version: STSv1\nmode: testing\nmx: *.example.com\nmax_age: 604800\n";
+    static const char usable[35] = {3, 1, 1}, unusable[35] = {1, 1, 1};
+    uint8_t first[4], second[4];
+    struct tweedstork_host_facts facts = known(TWEEDSTORK_NO_ALIAS_INSECURE, enforce);
+
+    matters("live enforce policy", facts, 1);
+    facts.clock++;
+    matters("stale enforce policy", facts, 0);
+    facts.clock = UINT64_MAX;
+    matters("bad clock", facts, 0);
+    matters("nothing needed", known(TWEEDSTORK_NO_ALIAS_INSECURE, NULL), 0);
+    matters("policy in testing", known(TWEEDSTORK_NO_ALIAS_INSECURE, testing), 0);
+    matters("no pattern matches", known(TWEEDSTORK_NO_ALIAS_INSECURE, other), 0);
+    matters("refused policy", known(TWEEDSTORK_NO_ALIAS_INSECURE, "version: STSv1\n"), 0);
+    matters("address lookup failed", known(TWEEDSTORK_ADDRESS_LOOKUP_FAILED, enforce), 0);
+    matters("no TLSA answer learnt yet", known(TWEEDSTORK_NO_ALIAS_SECURE, NULL), 1);
+    matters("no TLSA answer learnt yet, live policy", known(TWEEDSTORK_NO_ALIAS_SECURE, enforce), 1);
+
+    facts = known(TWEEDSTORK_NO_ALIAS_SECURE, NULL);
+    facts.host = text("mail_.example.com");
+    matters("bad host name", facts, 0);
+
+    facts = known(TWEEDSTORK_NO_ALIAS_SECURE, NULL);
+    learn_tlsa(&facts, TWEEDSTORK_TLSA_SECURE, usable, 35, first);
+    matters("usable record", facts, 1);
+    facts = known(TWEEDSTORK_NO_ALIAS_SECURE, NULL);
+    learn_tlsa(&facts, TWEEDSTORK_TLSA_SECURE, unusable, 35, first);
+    matters("only an unusable record", facts, 0);
+    facts = known(TWEEDSTORK_NO_ALIAS_SECURE, enforce);
+    learn_tlsa(&facts, TWEEDSTORK_TLSA_SECURE, unusable, 35, first);
+    matters("unusable record, live policy", facts, 1);
+    facts = known(TWEEDSTORK_NO_ALIAS_SECURE, enforce);
+    learn_tlsa(&facts, TWEEDSTORK_TLSA_SECURE, usable, 2, first);
+    matters("record of two bytes", facts, 0);
+    facts = known(TWEEDSTORK_NO_ALIAS_SECURE, enforce);
+    learn_tlsa(&facts, TWEEDSTORK_TLSA_LOOKUP_FAILED, usable, 35, first);
+    matters("TLSA lookup failed", facts, 0);
+    facts = known(TWEEDSTORK_NO_ALIAS_SECURE, NULL);
+    learn_tlsa(&facts, TWEEDSTORK_TLSA_INSECURE, usable, 35, first);
+    matters("insecure record", facts, 0);
+
+    facts = known(TWEEDSTORK_ALIAS_SECURE, NULL);
+    learn_tlsa(&facts, TWEEDSTORK_TLSA_ABSENT, usable, 35, first);
+    matters("the second of two TLSA answers not learnt yet", facts, 1);
+    learn_tlsa(&facts, TWEEDSTORK_TLSA_SECURE, usable, 35, second);
+    matters("usable record at the second name", facts, 1);
+    facts.tlsa[1].result = TWEEDSTORK_TLSA_ABSENT;
+    matters("no record at either name", facts, 0);
+}
+
 int main(void)
 {
     expect("tweedstork_host_answer has two numbers", sizeof(struct tweedstork_host_answer) == 16 && offsetof(struct tweedstork_host_answer, tlsa_questions) == 8);
@@ -177,6 +286,7 @@ int main(void)
     txt_records();
     policies();
     hosts();
+    certificates_matter();
     message_hosts();
     printf("boundary: %u passed, %u failed\n", passed, failed);
     return failed == 0 ? 0 : 1;

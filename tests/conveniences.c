@@ -1,7 +1,7 @@
 /*
- * The header's own C: the words, the lists of numbers, and tweedstork_judge_facts, which must hand each field to the argument
- * of its name. To see that, this program is linked without the archive and has a tweedstork_judge_host of its own, which
- * notes its arguments.
+ * The header's own C: the words, the lists of numbers, the server name, and tweedstork_judge_facts, which must hand each field
+ * to the argument of its name, with tweedstork_certificates_matter, which asks by it. To see that, this program is linked
+ * without the archive and has a tweedstork_judge_host of its own, which notes its arguments and answers what a test wants.
  */
 #include <stdio.h>
 #include <string.h>
@@ -10,6 +10,7 @@
 #include "tweedstork.h"
 
 static struct tweedstork_host_facts noted;
+static struct tweedstork_host_answer answered;
 
 static struct tweedstork_slice slice(const uint8_t *bytes, size_t length)
 {
@@ -29,8 +30,6 @@ struct tweedstork_host_answer tweedstork_judge_host(
     const uint8_t *dns_ids, size_t dns_ids_length, const uint8_t *dns_id_lengths, size_t dns_id_lengths_length,
     uint64_t common_name_given, const uint8_t *common_name, size_t common_name_length)
 {
-    struct tweedstork_host_answer answer = {12345, 67890};
-
     noted.clock = clock;
     noted.next_hop = slice(next_hop, next_hop_length);
     noted.origin = origin;
@@ -60,27 +59,114 @@ struct tweedstork_host_answer tweedstork_judge_host(
     noted.dns_id_lengths = slice(dns_id_lengths, dns_id_lengths_length);
     noted.common_name_given = common_name_given;
     noted.common_name = slice(common_name, common_name_length);
-    return answer;
+    return answered;
 }
 
 /* Every field is a number of eight bytes or a pointer: each gets a value of its own. */
-static void each_field_arrives(void)
+static struct tweedstork_host_facts facts_of_their_own(void)
 {
     struct tweedstork_host_facts facts;
     uint64_t words[sizeof facts / 8];
-    struct tweedstork_host_answer answer;
 
-    expect("no field is padded or of another size", sizeof facts == 8 * (13 + 2 * 16));
     for (size_t i = 0; i < sizeof words / 8; i++)
         words[i] = 1000 + i;
     memcpy(&facts, words, sizeof facts);
+    return facts;
+}
+
+static void each_field_arrives(void)
+{
+    struct tweedstork_host_facts facts = facts_of_their_own();
+    struct tweedstork_host_answer answer;
+
+    expect("no field is padded or of another size", sizeof facts == 8 * (13 + 2 * 16));
     memset(&noted, 0, sizeof noted);
+    answered.number = 12345;
+    answered.tlsa_questions = 67890;
     answer = tweedstork_judge_facts(&facts);
     expect("each field arrives at its argument", memcmp(&noted, &facts, sizeof facts) == 0);
     expect("the answer comes back", answer.number == 12345 && answer.tlsa_questions == 67890);
     memset(&facts, 0, sizeof facts);
     tweedstork_judge_facts(&facts);
     expect("nothing given is all zero", memcmp(&noted, &facts, sizeof facts) == 0);
+}
+
+/* Certificates matter where the library would ask for them (12), or for a TLSA answer before (66, since a handshake is given). */
+static void certificates_matter(void)
+{
+    const struct tweedstork_host_facts before = facts_of_their_own();
+    struct tweedstork_host_facts facts = before, wanted = before;
+
+    wanted.starttls = 1;
+    wanted.handshake = 1;
+    wanted.certificates_given = 0;
+    answered.tlsa_questions = 12;
+    for (uint64_t number = 0; number <= 100; number++) {
+        char name[40];
+        snprintf(name, sizeof name, "certificates matter on %u", (unsigned)number);
+        memset(&noted, 0, sizeof noted);
+        answered.number = number;
+        expect(name, tweedstork_certificates_matter(&facts) == (number == 12 || number == 66));
+        expect("it asks with STARTTLS offered, TLS established, no certificates, all else as it is", memcmp(&noted, &wanted, sizeof noted) == 0);
+        expect("the caller's facts are as they were", memcmp(&facts, &before, sizeof facts) == 0);
+    }
+    answered.number = ((uint64_t)1 << 32) + 12;
+    expect("the whole number is looked at", tweedstork_certificates_matter(&facts) == 0);
+}
+
+/*
+ * The server name for each address and first TLSA answer. Two names are tried only for an alias that is secure at every stage,
+ * the expanded one first; only a secure answer with a record is taken (RFC 7672, 2.2.2 and 2.2.3).
+ */
+static void server_names(void)
+{
+    enum { ADDRESSES = 7, ANSWERS = 9 };
+    static const uint64_t results[ANSWERS] = {0, 1, 1, 2, 2, 3, 3, 4, 4};
+    /* A letter for each TLSA answer: none; then secure, insecure, absent, failed, each without and with records. */
+    static const char *const wanted[ADDRESSES] = {
+        "h hh hh hh hh", /* no alias, secure */
+        "h hh hh hh hh", /* no alias, insecure */
+        "h hE hh hh hh", /* alias, secure at every stage */
+        "h hh hh hh hh", /* alias, only its first step secure */
+        "h hh hh hh hh", /* alias, first step insecure */
+        "h hh hh hh hh", /* address lookup failed */
+        "h hh hh hh hh", /* no address */
+    };
+    static const uint8_t host[] = "a.example", expanded[] = "bb.example", bytes[39];
+
+    for (uint64_t address = 1; address <= ADDRESSES; address++) {
+        const char *letter = wanted[address - 1];
+        for (size_t answer = 0; answer < ANSWERS; answer++, letter++) {
+            struct tweedstork_host_facts facts;
+            struct tweedstork_slice name;
+            char test[60];
+
+            memset(&facts, 0, sizeof facts);
+            facts.address = address;
+            facts.host = slice(host, 9);
+            facts.expanded = slice(expanded, 10);
+            facts.tlsa_answers = answer == 0 ? 0 : 1;
+            facts.tlsa[0].result = results[answer];
+            facts.tlsa[0].lengths = slice(bytes, answer % 2 == 0 && answer != 0 ? 4 : 0);
+            facts.tlsa[0].records = slice(bytes, answer % 2 == 0 && answer != 0 ? 35 : 0);
+            letter += *letter == ' ';
+            snprintf(test, sizeof test, "server name: address %u, TLSA answer %u", (unsigned)address, (unsigned)answer);
+            name = tweedstork_server_name(&facts);
+            expect(test, *letter == 'E' ? name.bytes == expanded && name.length == 10 : name.bytes == host && name.length == 9);
+            /* A second answer is of the host's own name. */
+            facts.tlsa_answers += answer != 0;
+            facts.tlsa[1].result = 1;
+            facts.tlsa[1].lengths = slice(bytes, 4);
+            facts.tlsa[1].records = slice(bytes, 35);
+            name = tweedstork_server_name(&facts);
+            expect(test, *letter == 'E' ? name.bytes == expanded && name.length == 10 : name.bytes == host && name.length == 9);
+            /* An answer that isn't given is not looked at. */
+            facts.tlsa_answers = 0;
+            name = tweedstork_server_name(&facts);
+            expect(test, name.bytes == host && name.length == 9);
+        }
+        expect("the table has a letter for each TLSA answer", *letter == '\0');
+    }
 }
 
 static void numbers_are_written_high_first(void)
@@ -123,6 +209,8 @@ static void each_number_has_words(void)
 int main(void)
 {
     each_field_arrives();
+    certificates_matter();
+    server_names();
     numbers_are_written_high_first();
     each_number_has_words();
     printf("conveniences: %u passed, %u failed\n", passed, failed);

@@ -18,14 +18,19 @@ expect() { # expect LAST-LINE PROGRAM ARGUMENT..
     fi
 }
 
-# Each scenario of examples/scenarios: the numbers that the library answers with, one after another, by document 01.
-scenario() { # scenario NAME NUMBERS
+# The numbers that the library answers with, one after another, by document 01.
+answers() { # answers FILE NUMBERS
     local got
-    got=$("$programs/relay" "examples/scenarios/$1.txt" | grep -o 'library [0-9]*:' | tr -dc '0-9\n' | paste -sd' ') || true
+    got=$("$programs/relay" "$1" | grep -o 'library [0-9]*:' | tr -dc '0-9\n' | paste -sd' ') || true
     if [ "$got" != "$2" ]; then
-        echo "relay examples/scenarios/$1.txt: expected $2, got $got"
+        echo "relay $1: expected $2, got $got"
         failed=1
     fi
+}
+
+# Each scenario of examples/scenarios.
+scenario() { # scenario NAME NUMBERS
+    answers "examples/scenarios/$1.txt" "$2"
     scenarios=$((scenarios + 1))
 }
 
@@ -55,7 +60,8 @@ expect 'relay: keeps the message and tries again later' relay "$files/name"
 sed -e '/^host/i host 5 mail_.example.com\n address secure' examples/scenarios/dane.txt >"$files/odd"
 expect 'relay: sends the message to mail.example.com, over the TLS connection whose certificate passed' relay "$files/odd"
 printf 'clock 1\nnext-hop example..com\nmx secure\nhost 10 mail.example.com\naddress secure\n' >"$files/hop"
-expect '  library 60: refused: bad next-hop name' relay "$files/hop"
+expect 'relay: returns the message, since its next-hop is no name' relay "$files/hop"
+answers "$files/hop" '8 60'
 printf 'clock 1\nnext-hop example.com\nmx insecure\nhost 10 mail.example.com\naddress insecure\n' >"$files/silent"
 expect "relay: the scenario doesn't say it of mail.example.com" relay "$files/silent"
 
