@@ -55,6 +55,7 @@ test: toolchain
 c-tests: examples
 	@echo '#include "tweedstork.h"' | $(CC) $(WARNINGS) -Iinclude -x c -fsyntax-only -
 	@echo '#include "tweedstork.h"' | $(CXX) -Wall -Wextra -Wpedantic -Werror -Iinclude -x c++ -fsyntax-only -
+	tests/declarations.sh
 	@$(CC) $(CFLAGS) $(WARNINGS) $(SANITIZERS) -Iinclude tests/conveniences.c -o $(OUT)/conveniences
 	$(OUT)/conveniences
 	@$(CC) $(CFLAGS) $(WARNINGS) $(SANITIZERS) -Iinclude tests/boundary.c $(ARCHIVE) -o $(OUT)/boundary
