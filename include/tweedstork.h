@@ -417,19 +417,6 @@ static inline struct tweedstork_host_answer tweedstork_judge_facts(const struct 
 }
 
 /*
- * The name to send in the handshake (SNI), once every TLSA answer asked for is learnt: the TLSA base domain (RFC 7672, 8.1),
- * which is the expanded name where the TLSA records taken stand there; and else the host, as RFC 8461, 7.1 wants. Where a
- * policy applies beside records at the expanded name it is still that name: a policy does not interfere with DANE (RFC 8461, 2).
- */
-static inline struct tweedstork_slice tweedstork_server_name(const struct tweedstork_host_facts *facts)
-{
-    int at_expanded = facts->address == TWEEDSTORK_ALIAS_SECURE && facts->tlsa_answers > 0
-                      && facts->tlsa[0].result == TWEEDSTORK_TLSA_SECURE && facts->tlsa[0].lengths.length > 0;
-
-    return at_expanded ? facts->expanded : facts->host;
-}
-
-/*
  * Before the handshake: may the verdict still hang on the certificates that the server will show? With 0 the relay may offer
  * anonymous ciphers (RFC 7672, 8.2) and need not keep the certificates; with 1 it offers none, since a server that has a
  * certificate may still choose such a cipher, and then shows none (26 or 27).
@@ -448,6 +435,21 @@ static inline int tweedstork_certificates_matter(const struct tweedstork_host_fa
     established.certificates_given = TWEEDSTORK_CERTIFICATES_NOT_GIVEN;
     answer = tweedstork_judge_facts(&established).number;
     return answer == TWEEDSTORK_ASK_CERTIFICATES || answer == TWEEDSTORK_FACT_MISSING;
+}
+
+/*
+ * The name to send in the handshake (SNI), once every TLSA answer asked for is learnt. Where DANE will be checked it is the TLSA
+ * base domain (RFC 7672, 8.1): the expanded name where the records stand there, else the host. A policy that applies besides
+ * doesn't change that (RFC 8461, 2). Otherwise, also where none of the records is usable, it is the host (RFC 8461, 7.1).
+ */
+static inline struct tweedstork_slice tweedstork_server_name(const struct tweedstork_host_facts *facts)
+{
+    struct tweedstork_host_facts without_policy = *facts;
+    int at_expanded = facts->address == TWEEDSTORK_ALIAS_SECURE && facts->tlsa_answers > 0
+                      && facts->tlsa[0].result == TWEEDSTORK_TLSA_SECURE && facts->tlsa[0].lengths.length > 0;
+
+    without_policy.policy_given = TWEEDSTORK_NO_POLICY; /* so that certificates matter for DANE alone */
+    return at_expanded && tweedstork_certificates_matter(&without_policy) ? facts->expanded : facts->host;
 }
 
 #ifdef __cplusplus

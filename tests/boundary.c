@@ -276,6 +276,37 @@ static void certificates_matter(void)
     matters("no record at either name", facts, 0);
 }
 
+/* The server name at the handshake: the expanded name where DANE is checked with the records there. */
+static void serves(const char *name, struct tweedstork_host_facts facts, const char *wanted)
+{
+    struct tweedstork_slice got = tweedstork_server_name(&facts);
+
+    expect(name, got.length == strlen(wanted) && memcmp(got.bytes, wanted, got.length) == 0);
+}
+
+static void server_names(void)
+{
+    static const char enforce[] = "version: STSv1\nmode: enforce\nmx: *.example.com\nmax_age: 604800\n";
+    static const char usable[35] = {3, 1, 1}, unusable[35] = {1, 1, 1};
+    uint8_t first[4], second[4];
+    struct tweedstork_host_facts facts = known(TWEEDSTORK_ALIAS_SECURE, NULL);
+
+    serves("no TLSA answer learnt", facts, "mail.example.com");
+    learn_tlsa(&facts, TWEEDSTORK_TLSA_SECURE, usable, 35, first);
+    serves("usable record at the expanded name", facts, "mx.example.net");
+    facts.policy_given = TWEEDSTORK_POLICY;
+    facts.policy = text(enforce);
+    serves("usable record at the expanded name, live policy", facts, "mx.example.net");
+    facts.tlsa[0].records.bytes = (const uint8_t *)unusable;
+    serves("only an unusable record at the expanded name, live policy", facts, "mail.example.com");
+    facts.tlsa[0].result = TWEEDSTORK_TLSA_ABSENT;
+    learn_tlsa(&facts, TWEEDSTORK_TLSA_SECURE, usable, 35, second);
+    serves("usable record at the host name", facts, "mail.example.com");
+    facts = known(TWEEDSTORK_NO_ALIAS_SECURE, NULL);
+    learn_tlsa(&facts, TWEEDSTORK_TLSA_SECURE, usable, 35, first);
+    serves("usable record, no alias", facts, "mail.example.com");
+}
+
 int main(void)
 {
     expect("tweedstork_host_answer has two numbers", sizeof(struct tweedstork_host_answer) == 16 && offsetof(struct tweedstork_host_answer, tlsa_questions) == 8);
@@ -287,6 +318,7 @@ int main(void)
     policies();
     hosts();
     certificates_matter();
+    server_names();
     message_hosts();
     printf("boundary: %u passed, %u failed\n", passed, failed);
     return failed == 0 ? 0 : 1;

@@ -114,6 +114,22 @@ static void certificates_matter(void)
     expect("the whole number is looked at", tweedstork_certificates_matter(&facts) == 0);
 }
 
+/* The server name of these facts is the expanded name exactly where DANE is checked there: the library asks for certificates (12) without a policy. */
+static void server_name(const char *test, const struct tweedstork_host_facts *facts, int may_be_expanded)
+{
+    static const uint64_t answers[] = {12, 2, 22, 26, 61, 64};
+
+    for (size_t i = 0; i < sizeof answers / sizeof answers[0]; i++) {
+        struct tweedstork_slice name, wanted = may_be_expanded && answers[i] == 12 ? facts->expanded : facts->host;
+
+        noted.policy_given = TWEEDSTORK_NO_POLICY;
+        answered.number = answers[i];
+        name = tweedstork_server_name(facts);
+        expect(test, name.bytes == wanted.bytes && name.length == wanted.length);
+        expect("it asks without a policy", noted.policy_given == TWEEDSTORK_NO_POLICY);
+    }
+}
+
 /*
  * The server name for each address and first TLSA answer. Two names are tried only for an alias that is secure at every stage,
  * the expanded one first; only a secure answer with a record is taken (RFC 7672, 2.2.2 and 2.2.3).
@@ -138,11 +154,11 @@ static void server_names(void)
         const char *letter = wanted[address - 1];
         for (size_t answer = 0; answer < ANSWERS; answer++, letter++) {
             struct tweedstork_host_facts facts;
-            struct tweedstork_slice name;
             char test[60];
 
             memset(&facts, 0, sizeof facts);
             facts.address = address;
+            facts.policy_given = TWEEDSTORK_POLICY;
             facts.host = slice(host, 9);
             facts.expanded = slice(expanded, 10);
             facts.tlsa_answers = answer == 0 ? 0 : 1;
@@ -151,19 +167,16 @@ static void server_names(void)
             facts.tlsa[0].records = slice(bytes, answer % 2 == 0 && answer != 0 ? 35 : 0);
             letter += *letter == ' ';
             snprintf(test, sizeof test, "server name: address %u, TLSA answer %u", (unsigned)address, (unsigned)answer);
-            name = tweedstork_server_name(&facts);
-            expect(test, *letter == 'E' ? name.bytes == expanded && name.length == 10 : name.bytes == host && name.length == 9);
+            server_name(test, &facts, *letter == 'E');
             /* A second answer is of the host's own name. */
             facts.tlsa_answers += answer != 0;
             facts.tlsa[1].result = 1;
             facts.tlsa[1].lengths = slice(bytes, 4);
             facts.tlsa[1].records = slice(bytes, 35);
-            name = tweedstork_server_name(&facts);
-            expect(test, *letter == 'E' ? name.bytes == expanded && name.length == 10 : name.bytes == host && name.length == 9);
+            server_name(test, &facts, *letter == 'E');
             /* An answer that isn't given is not looked at. */
             facts.tlsa_answers = 0;
-            name = tweedstork_server_name(&facts);
-            expect(test, name.bytes == host && name.length == 9);
+            server_name(test, &facts, 0);
         }
         expect("the table has a letter for each TLSA answer", *letter == '\0');
     }

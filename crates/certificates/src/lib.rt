@@ -312,25 +312,6 @@ fn set_match(
     Match::Named
 }
 
-// Whether some DNS-ID matches the name.
-fn has_dns_id(dns_ids: &[u8], lengths: &[u8], name: &[u8]) -> bool
-    ensures { λ r. ⌜ r ≡ someMatches (dnsIdsOf (now («dns_ids» .entry)) (now (lengths .entry))) (now (name .entry)) ⌝ }
-{
-    let n = numbers::count(lengths);
-    let mut at = 0;
-    let mut k = 0;
-    while k < n {
-        let e = numbers::end_at(lengths, k, at, dns_ids.len());
-        let hit = names::matches(&dns_ids[at..e], name);
-        if hit {
-            return true;
-        }
-        at = e;
-        k += 1;
-    }
-    false
-}
-
 // Whether a name of the leaf that counts matches the reference.
 fn leaf_names(
     dns_ids: &[u8],
@@ -343,7 +324,7 @@ fn leaf_names(
 {
     let n = numbers::count(lengths);
     if n != 0 {
-        return has_dns_id(dns_ids, lengths, reference);
+        return names::some_match(dns_ids, lengths, reference);
     }
     if !given {
         return false;
@@ -441,7 +422,7 @@ pub fn shows_host(
     if n == 0 {
         return false;
     }
-    has_dns_id(dns_ids, dns_id_lengths, host)
+    names::some_match(dns_ids, dns_id_lengths, host)
 }
 
 // Whether the place of the key info at place k lies inside a certificate of so many bytes.

@@ -3,5 +3,6 @@ pub mod Name
 pub mod Start
 pub mod Cover
 pub mod Match
+pub mod Patterns
 pub mod Exactly
 mod Worked

@@ -1,19 +1,19 @@
 -- The returns of `covers`, `matches` and `is_pattern`. Assumes nothing.
 use Prim.Native.Nat.{ℕ, _+_, _-_, _<_, _≤_}
 use mathlib.Core.Path.{_≡_, refl, sym, _∙_}
-use mathlib.Core.Bool.{Bool, true, false, cond, _&&_, and-true, and-false, or-false}
+use mathlib.Core.Bool.{Bool, true, false, cond, _&&_, _||_, and-true, and-false, or-false}
 use mathlib.Core.List.{List, [], _∷_}
 use native.Mathlib.Omega.{arith}
 use lib.Dec.{eqb, leb}
 use lib.ListN.{length, getD, take, drop}
 use borrow.Author.Needs.{needs}
 use borrow.Author.Tests.{not-true, not-false, lt-ltb, le-ltb, leb-true, eqb-true}
-use Rattle.lists.specs.Bytes.{within, all}
+use Rattle.lists.specs.Bytes.{within, all, any}
 use Rattle.lists.specs.Equal.{sameText}
 use Rattle.lists.specs.Split.{indexOf, split, toFirst}
 use Rattle.lists.proofs.Bools.{and-left, and-right}
 use Rattle.lists.proofs.Laws.{take-rest}
-use Rattle.names.specs.Name.{labelByte, isLabel, isName, isStarred, isWildcard, isPattern, matchesName}
+use Rattle.names.specs.Name.{labelByte, isLabel, isName, isStarred, isWildcard, isPattern, matchesName, someMatches}
 use Rattle.names.specs.Scan.{coversName}
 use Rattle.names.proofs.Cover.{matches-covers}
 
@@ -33,6 +33,27 @@ module _ (p n : List ℕ) (q : Bool) (gave : q ≡ coversName p n) where
 
   pub covered : q ≡ true → (r : Bool) → r ≡ isName n → r ≡ matchesName p n
   covered t r e = e ∙ sym (rw (covers-name p n, sym gave ∙ t) refl)
+
+-- of some texts, one matches n exactly where one covers n and n is a name
+some-covers-name : (ps : List (List ℕ)) (n : List ℕ) → someMatches ps n ≡ (any (λ (p : List ℕ). coversName p n) ps && isName n)
+unfolding any
+some-covers-name [] n = refl
+some-covers-name (p ∷ ps) n = rw (covers-name p n, some-covers-name ps n) (go (coversName p n) (any (λ (p : List ℕ). coversName p n) ps) (isName n))
+  where
+    go : (a b t : Bool) → ((a && t) || (b && t)) ≡ ((a || b) && t)
+    go true b true = refl
+    go true b false = and-false b
+    go false b t = refl
+
+-- `some_match`: q is what `some_cover` gave
+module _ (ps : List (List ℕ)) (n : List ℕ) (q : Bool) (gave : q ≡ any (λ (p : List ℕ). coversName p n) ps) where
+  pub none-covered : q ≡ false → false ≡ someMatches ps n
+  none-covered f = sym (rw (some-covers-name ps n, sym gave ∙ f) refl)
+
+  pub some-covered : q ≡ true → (r : Bool) → r ≡ isName n → r ≡ someMatches ps n
+  some-covered t r e = e ∙ sym (rw (some-covers-name ps n, sym gave ∙ t) refl)
+
+pub ruleset some-laws = (none-covered, some-covered, not-true, not-false, needs)
 
 pub ruleset matches-laws = (not-covered, covered, not-true, not-false, needs)
 

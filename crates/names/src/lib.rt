@@ -1,12 +1,17 @@
 // Names, and the patterns that match them.
-ghost use mathlib.Core.Bool.{true, false};
+ghost use mathlib.Core.Bool.{true, false, _&&_};
+ghost use mathlib.Core.List.{List};
 ghost use mathlib.Core.Path.{_≡_};
-ghost use Prim.Native.Nat.{_+_, _<_, _≤_};
+ghost use Prim.Native.Nat.{ℕ, _+_, _<_, _≤_};
 ghost use lib.Dec.{eqb};
 ghost use lib.ListN.{length, getD, drop};
+ghost use Rattle.lists.specs.Bytes.{any};
+ghost use Rattle.lists.specs.Equal.{sameText};
 ghost use Rattle.lists.specs.Span.{spanOf};
-ghost use Rattle.names.specs.Name.{labelByte, isName, isStarred, isPattern, matchesName};
-ghost use Rattle.names.specs.Scan.{startsLabel, labelEnds, coversName};
+ghost use Rattle.numbers.specs.Numbers.{numbers};
+ghost use Rattle.numbers.specs.Pieces.{cut};
+ghost use Rattle.names.specs.Name.{labelByte, isLabel, isName, isStarred, isPattern, afterFirst, matchesName, someMatches};
+ghost use Rattle.names.specs.Scan.{startsLabel, labelEnds, patternFor, coversName};
 
 // Whether b is a letter, a digit or a hyphen. A dot, which ends most labels, is told before capitals and digits.
 fn is_label_byte(b: u8) -> bool
@@ -132,8 +137,80 @@ pub fn is_pattern(p: &[u8]) -> bool
     is_name(p)
 }
 
-// Whether the texts are equal, or the pattern is `*.` and what follows the first dot of n: of a name n, whether the pattern matches it. The pattern needs no test of its own, since what
-// equals a name is one.
+// What a text is as a pattern for n: none, one that matches n, or one that doesn't.
+pub enum Pattern {
+    Malformed,
+    Matching,
+    Other,
+}
+
+// Whether l is a label: 1 to 63 letters, digits and hyphens, no hyphen at either end.
+fn is_label(l: &[u8]) -> bool
+    ensures { λ r. ⌜ r ≡ isLabel (now (l .entry)) ⌝ }
+{
+    if l.len() < 1 {
+        return false;
+    }
+    if 63 < l.len() {
+        return false;
+    }
+    if l[0] == b'-' {
+        return false;
+    }
+    if l[l.len() - 1] == b'-' {
+        return false;
+    }
+    let end = label_from(l, 0);
+    end == l.len()
+}
+
+// Whether n is a name made of one label, a dot and the name `rest`.
+fn is_under(rest: &[u8], n: &[u8]) -> bool
+    requires { ⌜ isName (now rest) ≡ true ⌝ }
+    ensures { λ r. ⌜ r ≡ (isName (now (n .entry)) && sameText (now (rest .entry)) (afterFirst (now (n .entry)))) ⌝ }
+{
+    let dot = lists::find(n, b'.', 0);
+    if n.len() <= dot {
+        return false;
+    }
+    let equal = lists::equal_ignoring_case(rest, &n[dot + 1..]);
+    if !equal {
+        return false;
+    }
+    if 253 < n.len() {
+        return false;
+    }
+    is_label(&n[0..dot])
+}
+
+// Whether p is a pattern, and whether it matches n. What equals a name is one, so n is not tested as a whole.
+pub fn read_pattern(p: &[u8], n: &[u8]) -> Pattern
+    ensures { λ r. ⌜ r ≡ patternFor (now (p .entry)) (now (n .entry)) ⌝ }
+{
+    let starred = is_starred(p);
+    if starred {
+        let named = is_name(&p[2..]);
+        if !named {
+            return Pattern::Malformed;
+        }
+        let under = is_under(&p[2..], n);
+        if under {
+            return Pattern::Matching;
+        }
+        return Pattern::Other;
+    }
+    let named = is_name(p);
+    if !named {
+        return Pattern::Malformed;
+    }
+    let equal = lists::equal_ignoring_case(p, n);
+    if equal {
+        return Pattern::Matching;
+    }
+    Pattern::Other
+}
+
+// Whether the texts are equal, or the pattern is `*.` and what follows the first dot of n: of a name n, whether the pattern matches it.
 fn covers(pattern: &[u8], n: &[u8]) -> bool
     ensures { λ r. ⌜ r ≡ coversName (now (pattern .entry)) (now (n .entry)) ⌝ }
 {
@@ -152,12 +229,41 @@ fn covers(pattern: &[u8], n: &[u8]) -> bool
     lists::equal_ignoring_case(&pattern[2..], &n[dot + 1..])
 }
 
-// Whether the pattern matches the name n; false where n is no name, or the pattern is neither a name nor `*.` and a name. Whether n is a name is asked last, since most patterns are
-// told by the comparison.
+// Whether the pattern matches the name n; false where n is no name, or the pattern is neither a name nor `*.` and a name.
 pub fn matches(pattern: &[u8], n: &[u8]) -> bool
     ensures { λ r. ⌜ r ≡ matchesName (now (pattern .entry)) (now (n .entry)) ⌝ }
 {
     let covered = covers(pattern, n);
+    if !covered {
+        return false;
+    }
+    is_name(n)
+}
+
+// Whether one of some texts, which stand one after another with these lengths, covers n.
+fn some_cover(texts: &[u8], lengths: &[u8], n: &[u8]) -> bool
+    ensures { λ r. ⌜ r ≡ any (λ (p : List ℕ). coversName p (now (n .entry))) (cut (now (texts .entry)) (numbers (now (lengths .entry)))) ⌝ }
+{
+    let count = numbers::count(lengths);
+    let mut at = 0;
+    let mut k = 0;
+    while k < count {
+        let e = numbers::end_at(lengths, k, at, texts.len());
+        let hit = covers(&texts[at..e], n);
+        if hit {
+            return true;
+        }
+        at = e;
+        k += 1;
+    }
+    false
+}
+
+// Whether one of them matches the name n. Whether n is a name is asked once for all of them.
+pub fn some_match(texts: &[u8], lengths: &[u8], n: &[u8]) -> bool
+    ensures { λ r. ⌜ r ≡ someMatches (cut (now (texts .entry)) (numbers (now (lengths .entry)))) (now (n .entry)) ⌝ }
+{
+    let covered = some_cover(texts, lengths, n);
     if !covered {
         return false;
     }

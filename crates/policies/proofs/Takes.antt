@@ -19,7 +19,9 @@ use Rattle.lists.proofs.Laws.{take-rest}
 use Rattle.lists.proofs.Span.{span-le, span-stops}
 use Rattle.lists.proofs.All.{all-drop, all-take}
 use Rattle.lists.proofs.Bools.{never}
+use Rattle.names.specs.declared.Pattern.{Pattern}
 use Rattle.names.specs.Name.{isPattern, matchesName}
+use Rattle.names.specs.Scan.{patternFor}
 use Rattle.fields.specs.Name.{after, hasName}
 use Rattle.fields.specs.Blank.{blank, unblanked}
 use Rattle.fields.proofs.Blank.{unblanked-le}
@@ -84,18 +86,40 @@ module _ (r : Seen) (v : List ℕ) where
         go none k = never cc
         go (some m) k = rw k
 
-module _ (h : List ℕ) (x : Bool) (v : List ℕ) (b : Bool) (g : b ≡ isPattern v) where
-  pub mx-bad : b ≡ false → Step.Broken Cause.Mx ≡ takeMx h x v
-  unfolding takeMx
-  mx-bad e = cc
+-- `take_mx`: b is what `is_pattern` gave, r what `read_pattern` gave
+module _ (h : List ℕ) (x : Bool) (v : List ℕ) where
+  module _ (f : x ≡ true) (b : Bool) (g : b ≡ isPattern v) where
+    pub mx-listed-bad : b ≡ false → Step.Broken Cause.Mx ≡ takeMx h x v
+    unfolding takeMx
+    mx-listed-bad e = cc
 
-  pub mx-listed : b ≡ true → x ≡ true → Step.Pattern true ≡ takeMx h x v
-  unfolding takeMx
-  mx-listed e f = cc
+    pub mx-listed : b ≡ true → Step.Pattern true ≡ takeMx h x v
+    unfolding takeMx
+    mx-listed e = cc
 
-  pub mx-matches : b ≡ true → x ≡ false → (y : Bool) → y ≡ matchesName v h → Step.Pattern y ≡ takeMx h x v
-  unfolding takeMx
-  mx-matches e f y k = cc
+  -- the cases of `read_pattern` as tests
+  read-cases : (p m : Bool) (r : Pattern) → r ≡ cond p (cond m Pattern.Matching Pattern.Other) Pattern.Malformed
+      → ((r ≡ Pattern.Malformed → p ≡ false) × (r ≡ Pattern.Matching → (p ≡ true) × (m ≡ true)) × (r ≡ Pattern.Other → (p ≡ true) × (m ≡ false)))
+  read-cases true true r e = (λ q. never cc, λ q. (refl, refl), λ q. never cc)
+  read-cases true false r e = (λ q. never cc, λ q. never cc, λ q. (refl, refl))
+  read-cases false m r e = (λ q. refl, λ q. never cc, λ q. never cc)
+
+  module _ (f : x ≡ false) (r : Pattern) (g : r ≡ patternFor v h) where
+    cases : (r ≡ Pattern.Malformed → isPattern v ≡ false) × (r ≡ Pattern.Matching → (isPattern v ≡ true) × (matchesName v h ≡ true)) × (r ≡ Pattern.Other → (isPattern v ≡ true) × (matchesName v h ≡ false))
+    unfolding patternFor
+    cases = read-cases (isPattern v) (matchesName v h) r g
+
+    pub mx-malformed : r ≡ Pattern.Malformed → Step.Broken Cause.Mx ≡ takeMx h x v
+    unfolding takeMx
+    mx-malformed e = rw (cases .0 e)
+
+    pub mx-matching : r ≡ Pattern.Matching → Step.Pattern true ≡ takeMx h x v
+    unfolding takeMx
+    mx-matching e = let k = cases .1 e in rw (k .0, f, k .1)
+
+    pub mx-other : r ≡ Pattern.Other → Step.Pattern false ≡ takeMx h x v
+    unfolding takeMx
+    mx-other e = let k = cases .2 e in rw (k .0, f, k .1)
 
 pub ruleset version-laws = (version-had, version-bad, version-good, not-true, not-false, needs)
 
@@ -103,7 +127,7 @@ pub ruleset mode-laws = (mode-had, mode-bad, mode-good, not-true, not-false, nee
 
 pub ruleset age-laws = (age-had, age-bad, age-good, needs)
 
-pub ruleset mx-laws = (mx-bad, mx-listed, mx-matches, not-true, not-false, needs)
+pub ruleset mx-laws = (mx-listed-bad, mx-listed, mx-malformed, mx-matching, mx-other, not-true, not-false, needs)
 
 -- `take_field`: s is what the call for the kind k gave
 module _ (h : List ℕ) (x : Bool) (r : Seen) (v : List ℕ) (k : Kind) (s : Step) where

@@ -16,6 +16,7 @@ ghost use Rattle.policies.specs.Fields.{modeOf, ageOf, valueOf};
 ghost use Rattle.policies.specs.Policy.{modeNumber, refused, policyAnswer, patternsOf, policyFor};
 ghost use Rattle.policies.specs.Reader.{strippedValue, textEnd, kindOf, heldMode, heldAge, holdsMode, modeHeld, takeVersion, takeMode, takeAge, takeMx, takeField, takeLine, turnAt, checked, enough, accepted, seenAnswer, forHost};
 use fields::Field;
+use names::Pattern;
 
 mod utf8;
 
@@ -286,15 +287,19 @@ fn take_age(seen: Seen, v: &[u8]) -> Step
 fn take_mx(v: &[u8], host: &[u8], listed: bool) -> Step
     ensures { λ r. ⌜ r ≡ takeMx (now (host .entry)) listed (now (v .entry)) ⌝ }
 {
-    let good = names::is_pattern(v);
-    if !good {
+    if listed {
+        let good = names::is_pattern(v);
+        if good {
+            return Step::Pattern(true);
+        }
         return Step::Broken(Cause::Mx);
     }
-    if listed {
-        return Step::Pattern(true);
+    let read = names::read_pattern(v, host);
+    match read {
+        Pattern::Malformed => Step::Broken(Cause::Mx),
+        Pattern::Matching => Step::Pattern(true),
+        Pattern::Other => Step::Pattern(false),
     }
-    let matched = names::matches(v, host);
-    Step::Pattern(matched)
 }
 
 // What a field does to the fields seen so far.

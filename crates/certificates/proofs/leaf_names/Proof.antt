@@ -6,8 +6,8 @@ use Rattle.certificates.proofs.leaf_names.Tie as tie
 count-requires : tie.Need-count-requires
 count-requires c κs = search leaf-names-laws
 
-has-dns-id-requires : tie.Need-has-dns-id-requires
-has-dns-id-requires c κs = search leaf-names-laws
+some-match-requires : tie.Need-some-match-requires
+some-match-requires c κs = search leaf-names-laws
 
 returns : tie.Need-returns
 returns c = search leaf-names-laws
@@ -24,4 +24,4 @@ returns-3 c = search leaf-names-laws
 pub leaf-names-spec : {M : Type 1} → statement M
 leaf-names-spec =
     tie.close
-    (tie.spec count-requires has-dns-id-requires returns returns-2 matches-requires returns-3)
+    (tie.spec count-requires some-match-requires returns returns-2 matches-requires returns-3)

@@ -12,12 +12,12 @@ count-requires c κs = search host-laws
 returns-2 : tie.Need-returns-2
 returns-2 c = search host-laws
 
-has-dns-id-requires : tie.Need-has-dns-id-requires
-has-dns-id-requires c κs = search host-laws
+some-match-requires : tie.Need-some-match-requires
+some-match-requires c κs = search host-laws
 
 returns-3 : tie.Need-returns-3
 returns-3 c = search host-laws
 
 pub shows-host-spec : {M : Type 1} → statement M
 shows-host-spec =
-    tie.close (tie.spec returns count-requires returns-2 has-dns-id-requires returns-3)
+    tie.close (tie.spec returns count-requires returns-2 some-match-requires returns-3)

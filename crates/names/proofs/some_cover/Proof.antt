@@ -1,20 +1,21 @@
--- `certificates::has_dns_id` meets its contract. Assumes nothing.
+-- `names::some_cover` meets its contract. Assumes nothing.
 use Prim.Native.Nat.{ℕ, _≤_, _-_}
 use mathlib.Core.Path.{_≡_}
 use mathlib.Core.List.{List}
 use lib.ListN.{length, drop}
+use Rattle.lists.specs.Bytes.{any}
 use Rattle.numbers.specs.Numbers.{numbers}
 use Rattle.numbers.specs.Pieces.{cut}
-use Rattle.names.specs.Name.{someMatches}
+use Rattle.names.specs.Scan.{coversName}
 use Rattle.numbers.proofs.Loop.{any-laws}
-use Rattle.certificates.proofs.has_dns_id.Statement.{statement}
-use Rattle.certificates.proofs.has_dns_id.Tie as tie
+use Rattle.names.proofs.some_cover.Statement.{statement}
+use Rattle.names.proofs.some_cover.Tie as tie
 
 abbrev Inv-loop : tie.InvT-loop
-Inv-loop dns-ids lengths name n at₀ k₀ at k = (k ≤ n) × (at ≤ length dns-ids) × (someMatches (cut dns-ids (numbers lengths)) name ≡ someMatches (cut (drop at dns-ids) (drop k (numbers lengths))) name)
+Inv-loop texts lengths n count at₀ k₀ at k = (k ≤ count) × (at ≤ length texts) × (any (λ (p : List ℕ). coversName p n) (cut texts (numbers lengths)) ≡ any (λ (p : List ℕ). coversName p n) (cut (drop at texts) (drop k (numbers lengths))))
 
 abbrev μ-loop : tie.MeasureT-loop
-μ-loop dns-ids lengths name n at₀ k₀ at k = n - k
+μ-loop texts lengths n count at₀ k₀ at k = count - k
 
 count-requires : tie.Need-count-requires Inv-loop μ-loop
 count-requires c κs = search any-laws
@@ -25,17 +26,17 @@ loop-holds c = search any-laws
 end-at-requires : tie.Need-end-at-requires Inv-loop μ-loop
 end-at-requires c κs = search any-laws
 
-sub-matches : tie.Need-sub-matches Inv-loop μ-loop
-sub-matches c = search any-laws
+sub-covers : tie.Need-sub-covers Inv-loop μ-loop
+sub-covers c = search any-laws
 
-part-matches-start : tie.Need-part-matches-start Inv-loop μ-loop
-part-matches-start c = search any-laws
+part-covers-start : tie.Need-part-covers-start Inv-loop μ-loop
+part-covers-start c = search any-laws
 
-part-matches-end : tie.Need-part-matches-end Inv-loop μ-loop
-part-matches-end c = search any-laws
+part-covers-end : tie.Need-part-covers-end Inv-loop μ-loop
+part-covers-end c = search any-laws
 
-matches-requires : tie.Need-matches-requires Inv-loop μ-loop
-matches-requires c κs = search any-laws
+covers-requires : tie.Need-covers-requires Inv-loop μ-loop
+covers-requires c κs = search any-laws
 
 returns : tie.Need-returns Inv-loop μ-loop
 returns c = search any-laws
@@ -52,8 +53,8 @@ loop-again c = search any-laws
 returns-2 : tie.Need-returns-2 Inv-loop μ-loop
 returns-2 c = search any-laws
 
-pub has-dns-id-spec : {M : Type 1} → statement M
-has-dns-id-spec =
+pub some-cover-spec : {M : Type 1} → statement M
+some-cover-spec =
     tie.close
     (tie.spec
     Inv-loop
@@ -61,10 +62,10 @@ has-dns-id-spec =
     count-requires
     loop-holds
     end-at-requires
-    sub-matches
-    part-matches-start
-    part-matches-end
-    matches-requires
+    sub-covers
+    part-covers-start
+    part-covers-end
+    covers-requires
     returns
     add-k
     loop-less

@@ -1,0 +1,146 @@
+-- The returns of `is_label`, `is_under` and `read_pattern`. Assumes nothing.
+use Prim.Native.Nat.{ℕ, suc, _+_, _-_, _<_, _≤_}
+use mathlib.Core.Path.{_≡_, refl, sym, ap, _∙_}
+use mathlib.Core.Bool.{Bool, true, false, cond, not, _&&_, _||_, and-true, and-false, or-false}
+use mathlib.Core.List.{List, [], _∷_}
+use native.Mathlib.Omega.{arith}
+use lib.Dec.{eqb, leb}
+use lib.ListN.{length, getD, take, drop, drop-of-length-le}
+use lib.Seq.{take-length}
+use borrow.Author.Needs.{needs}
+use borrow.Author.Tests.{not-true, not-false, le-leb, lt-leb, leb-true, leb-false, eq-eqb, ne-eqb}
+use Rattle.lists.specs.Bytes.{within, all}
+use Rattle.lists.specs.Equal.{sameText}
+use Rattle.lists.specs.Span.{spanOf}
+use Rattle.lists.specs.Split.{indexOf, split}
+use Rattle.lists.proofs.Laws.{take-rest}
+use Rattle.lists.proofs.Span.{span-le, span-reaches}
+use Rattle.lists.proofs.Split.{split-first}
+use Rattle.names.specs.declared.Pattern.{Pattern}
+use Rattle.names.specs.Name.{labelByte, isLabel, isName, isStarred, isWildcard, isPattern, afterFirst, matchesName}
+use Rattle.names.specs.Scan.{patternFor}
+use Rattle.names.proofs.Cover.{name-same, name-labels, same-nothing}
+use Rattle.names.proofs.Match.{starred-long, starred-no-name}
+
+-- `is_label`: e is what `label_from` gave
+module _ (l : List ℕ) where
+  pub label-empty : length l < 1 → false ≡ isLabel l
+  unfolding isLabel
+  label-empty h = simp (lt-leb 1 (length l) h)
+
+  pub label-long : 63 < length l → false ≡ isLabel l
+  unfolding isLabel
+  label-long h = simp (lt-leb (length l) 63 h, and-false)
+
+  pub label-first : getD l 0 0 ≡ 45 → false ≡ isLabel l
+  unfolding isLabel
+  label-first h = simp (eq-eqb (getD l 0 0) 45 h, and-false)
+
+  pub label-last : getD l (length l - 1) 0 ≡ 45 → false ≡ isLabel l
+  unfolding isLabel
+  label-last h = simp (eq-eqb (getD l (length l - 1) 0) 45 h, and-false)
+
+  -- every byte is of a label exactly where the first that is not stands at the end
+  spans : (e : ℕ) → e ≡ 0 + spanOf labelByte (drop 0 l) → eqb e (length l) ≡ all labelByte l
+  spans e g = go (leb (length l) (spanOf labelByte l)) refl ∙ (span-reaches labelByte l (length l) (omega arith) ∙ ap (all labelByte) (take-length l))
+    where
+      go : (t : Bool) → leb (length l) (spanOf labelByte l) ≡ t → eqb e (length l) ≡ t
+      go true h = eq-eqb e (length l) (omega (arith, g, leb-true (length l) (spanOf labelByte l) h, span-le labelByte l))
+      go false h = ne-eqb e (length l) (λ q. omega (arith, g, leb-false (length l) (spanOf labelByte l) h))
+
+  pub label-bytes : 1 ≤ length l → length l ≤ 63 → (getD l 0 0 ≡ 45 → ⊥) → (getD l (length l - 1) 0 ≡ 45 → ⊥) → (e : ℕ) → e ≡ 0 + spanOf labelByte (drop 0 l) → eqb e (length l) ≡ isLabel l
+  unfolding isLabel
+  label-bytes a b c d e g = simp (le-leb 1 (length l) a, le-leb (length l) 63 b, ne-eqb (getD l 0 0) 45 c, ne-eqb (getD l (length l - 1) 0) 45 d) (spans e g)
+
+pub ruleset label-laws = (label-empty, label-long, label-first, label-last, label-bytes, needs)
+
+-- `is_under`: dot is where the first dot of n was found, q whether what follows it equals the name `rest`
+module _ (rest n : List ℕ) (named : isName rest ≡ true) (dot : ℕ) (found : dot ≡ 0 + indexOf 46 (drop 0 n)) where
+  pub under-one-label : length n ≤ dot → false ≡ (isName n && sameText rest (afterFirst n))
+  under-one-label h =
+      let l : length n ≤ indexOf 46 n + 1 = omega arith in
+      let k : sameText rest [] ≡ false = rw named at (same-nothing rest) in
+      sym (rw (drop-of-length-le n l, k) (and-false (isName n)))
+
+  module _ (h : dot < length n) (q : Bool) (same : q ≡ sameText rest (take (length n - (dot + 1)) (drop (dot + 1) n))) where
+    at : dot ≡ indexOf 46 n
+    at = omega arith
+
+    same-rest : q ≡ sameText rest (afterFirst n)
+    same-rest = same ∙ rw (take-rest n (dot + 1), at)
+
+    pub under-other : q ≡ false → false ≡ (isName n && sameText rest (afterFirst n))
+    under-other f = sym (rw (sym same-rest ∙ f) (and-false (isName n)))
+
+    pub under-long : 253 < length n → false ≡ (isName n && sameText rest (afterFirst n))
+    unfolding isName
+    under-long k = simp (lt-leb (length n) 253 k, and-false)
+
+    pub under-label : q ≡ true → length n ≤ 253 → (r : Bool) → r ≡ isLabel (take (dot - 0) (drop 0 n)) → r ≡ (isName n && sameText rest (afterFirst n))
+    unfolding isName all
+    under-label t k r e =
+        let s : sameText rest (afterFirst n) ≡ true = sym same-rest ∙ t in
+        let o : suc (indexOf 46 n) ≡ indexOf 46 n + 1 = omega arith in
+        let p : split 46 n ≡ take (indexOf 46 n) n ∷ split 46 (afterFirst n) = rw (← o) (split-first 46 n (omega arith)) in
+        let w : all isLabel (split 46 (afterFirst n)) ≡ true = name-labels (afterFirst n) (sym (name-same rest (afterFirst n) s) ∙ named) in
+        let d : dot - 0 ≡ indexOf 46 n = omega arith in
+        let g : r ≡ isLabel (take (indexOf 46 n) n) = rw d at e in
+        simp (s, p, w, le-leb 1 (length n) (omega arith), le-leb (length n) 253 k, and-true) g
+
+pub ruleset under-laws = (under-one-label, under-other, under-long, under-label, not-true, not-false, needs)
+
+-- `read_pattern`: r is what `is_starred` gave, m what `is_name` gave
+module _ (p n : List ℕ) (r : Bool) (gave : r ≡ isStarred p) (m : Bool) where
+  module _ (t : r ≡ true) (named : m ≡ isName (take (length p - 2) (drop 2 p))) where
+    starred : isStarred p ≡ true
+    starred = sym gave ∙ t
+
+    named-rest : m ≡ isName (drop 2 p)
+    named-rest = named ∙ ap isName (take-rest p 2)
+
+    pub wild-malformed : m ≡ false → Pattern.Malformed ≡ patternFor p n
+    unfolding patternFor isPattern isWildcard
+    wild-malformed f = simp (starred-no-name p starred, starred, sym named-rest ∙ f)
+
+    module _ (mt : m ≡ true) (u : Bool) (under : u ≡ (isName n && sameText (take (length p - 2) (drop 2 p)) (afterFirst n))) where
+      matches-u : matchesName p n ≡ u
+      unfolding matchesName isWildcard
+      matches-u = simp (starred-no-name p starred, starred, sym named-rest ∙ mt) (sym (rw (take-rest p 2) at under))
+
+      is-pattern : isPattern p ≡ true
+      unfolding isPattern isWildcard
+      is-pattern = simp (starred-no-name p starred, starred, sym named-rest ∙ mt)
+
+      pub wild-matching : u ≡ true → Pattern.Matching ≡ patternFor p n
+      unfolding patternFor
+      wild-matching e = rw (is-pattern, matches-u, e)
+
+      pub wild-other : u ≡ false → Pattern.Other ≡ patternFor p n
+      unfolding patternFor
+      wild-other e = rw (is-pattern, matches-u, e)
+
+  module _ (f : r ≡ false) (named : m ≡ isName p) where
+    plain : isStarred p ≡ false
+    plain = sym gave ∙ f
+
+    pub plain-malformed : m ≡ false → Pattern.Malformed ≡ patternFor p n
+    unfolding patternFor isPattern isWildcard
+    plain-malformed e = simp (plain, sym named ∙ e)
+
+    module _ (mt : m ≡ true) (q : Bool) (same : q ≡ sameText p n) where
+      is-name : isName p ≡ true
+      is-name = sym named ∙ mt
+
+      pub plain-matching : q ≡ true → Pattern.Matching ≡ patternFor p n
+      unfolding patternFor isPattern isWildcard matchesName
+      plain-matching t = simp (is-name, sym (name-same p n (sym same ∙ t)) ∙ is-name, plain, sym same ∙ t)
+
+      pub plain-other : q ≡ false → Pattern.Other ≡ patternFor p n
+      unfolding patternFor isPattern isWildcard matchesName
+      plain-other t = simp (is-name, plain, sym same ∙ t, and-false)
+
+-- what `is_under` asks of the name after the star
+pub known-name : (s : List ℕ) (m : Bool) → m ≡ isName s → m ≡ true → isName s ≡ true
+known-name s m e t = sym e ∙ t
+
+pub ruleset read-pattern-laws = (known-name, wild-malformed, wild-matching, wild-other, plain-malformed, plain-matching, plain-other, starred-long, not-true, not-false, needs)
