@@ -49,6 +49,7 @@ test: toolchain
 	$(RT) fmt --check
 	@set -o pipefail; log=$$(mktemp); echo '$(RT) ci'; $(RT) ci 2>&1 | tee "$$log" || { rm -f "$$log"; exit 1; }; \
 	    mkdir -p $(OUT) && mv "$$log" $(OUT)/ci.log
+	tests/must-fail.sh
 	@$(MAKE) --no-print-directory c-tests
 	@tail -n 1 $(OUT)/ci.log
 

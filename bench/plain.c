@@ -1,5 +1,5 @@
 /*
- * The rules in plain C: the yardstick of the benchmark. It is what a careful C programmer would write who cares for speed:
+ * The rules in plain C: what the benchmark compares the library with. It is what a careful C programmer would write who cares for speed:
  * the library's checks and answers on every input, no heap, every byte read once or twice, tables for the classes of
  * bytes, memcmp and memcpy where they fit, and no pointer that leaves its slice. Nothing of it is proved.
  */

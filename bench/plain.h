@@ -1,5 +1,5 @@
 /*
- * The yardstick of the benchmark as C meets it: the library's calls once more, with the prefix plain_ and the same
+ * What the benchmark compares the library with, as C meets it: the library's calls once more, with the prefix plain_ and the same
  * arguments and answers.
  */
 #ifndef PLAIN_H

@@ -18,27 +18,26 @@ use Rattle.lists.proofs.Span.{span-le, span-reaches}
 use Rattle.lists.proofs.Split.{split-first}
 use Rattle.names.specs.declared.Pattern.{Pattern}
 use Rattle.names.specs.Name.{labelByte, isLabel, isName, isStarred, isWildcard, isPattern, afterFirst, matchesName}
-use Rattle.names.specs.Scan.{patternFor}
+use Rattle.names.specs.Scan.{labelEnds, patternFor}
 use Rattle.names.proofs.Cover.{name-same, name-labels, same-nothing}
 use Rattle.names.proofs.Match.{starred-long, starred-no-name}
 
--- `is_label`: e is what `label_from` gave
+-- `is_label`: v is what `has_label_ends` gave, e what `label_from` gave
 module _ (l : List ℕ) where
   pub label-empty : length l < 1 → false ≡ isLabel l
   unfolding isLabel
   label-empty h = simp (lt-leb 1 (length l) h)
 
-  pub label-long : 63 < length l → false ≡ isLabel l
-  unfolding isLabel
-  label-long h = simp (lt-leb (length l) 63 h, and-false)
-
   pub label-first : getD l 0 0 ≡ 45 → false ≡ isLabel l
   unfolding isLabel
   label-first h = simp (eq-eqb (getD l 0 0) 45 h, and-false)
 
-  pub label-last : getD l (length l - 1) 0 ≡ 45 → false ≡ isLabel l
-  unfolding isLabel
-  label-last h = simp (eq-eqb (getD l (length l - 1) 0) 45 h, and-false)
+  pub label-unhyphened : (getD l 0 0 ≡ 45 → ⊥) → eqb (getD l 0 0) 45 ≡ false
+  label-unhyphened h = ne-eqb (getD l 0 0) 45 h
+
+  pub label-ends : (v : Bool) → v ≡ labelEnds l → v ≡ false → false ≡ isLabel l
+  unfolding isLabel labelEnds
+  label-ends v g f = rw (sym g ∙ f)
 
   -- every byte is of a label exactly where the first that is not stands at the end
   spans : (e : ℕ) → e ≡ 0 + spanOf labelByte (drop 0 l) → eqb e (length l) ≡ all labelByte l
@@ -48,11 +47,11 @@ module _ (l : List ℕ) where
       go true h = eq-eqb e (length l) (omega (arith, g, leb-true (length l) (spanOf labelByte l) h, span-le labelByte l))
       go false h = ne-eqb e (length l) (λ q. omega (arith, g, leb-false (length l) (spanOf labelByte l) h))
 
-  pub label-bytes : 1 ≤ length l → length l ≤ 63 → (getD l 0 0 ≡ 45 → ⊥) → (getD l (length l - 1) 0 ≡ 45 → ⊥) → (e : ℕ) → e ≡ 0 + spanOf labelByte (drop 0 l) → eqb e (length l) ≡ isLabel l
-  unfolding isLabel
-  label-bytes a b c d e g = simp (le-leb 1 (length l) a, le-leb (length l) 63 b, ne-eqb (getD l 0 0) 45 c, ne-eqb (getD l (length l - 1) 0) 45 d) (spans e g)
+  pub label-bytes : (v : Bool) → v ≡ labelEnds l → v ≡ true → (e : ℕ) → e ≡ 0 + spanOf labelByte (drop 0 l) → eqb e (length l) ≡ isLabel l
+  unfolding isLabel labelEnds
+  label-bytes v g t e h = rw (sym g ∙ t) (spans e h)
 
-pub ruleset label-laws = (label-empty, label-long, label-first, label-last, label-bytes, needs)
+pub ruleset label-laws = (label-empty, label-first, label-unhyphened, label-ends, label-bytes, not-true, not-false, needs)
 
 -- `is_under`: dot is where the first dot of n was found, q whether what follows it equals the name `rest`
 module _ (rest n : List ℕ) (named : isName rest ≡ true) (dot : ℕ) (found : dot ≡ 0 + indexOf 46 (drop 0 n)) where

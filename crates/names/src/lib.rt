@@ -151,13 +151,11 @@ fn is_label(l: &[u8]) -> bool
     if l.len() < 1 {
         return false;
     }
-    if 63 < l.len() {
-        return false;
-    }
     if l[0] == b'-' {
         return false;
     }
-    if l[l.len() - 1] == b'-' {
+    let good = has_label_ends(l);
+    if !good {
         return false;
     }
     let end = label_from(l, 0);

@@ -19,5 +19,8 @@ pub fn is_next_host(v: u64) -> bool
     if v < 20 {
         return false;
     }
-    v <= 27
+    if 27 < v {
+        return false;
+    }
+    true
 }

@@ -6,40 +6,32 @@ use Rattle.names.proofs.is_label.Tie as tie
 returns : tie.Need-returns
 returns c = search label-laws
 
+shared-slice-read-if2 : tie.Need-shared-slice-read-if2
+shared-slice-read-if2 c = search label-laws
+
 returns-2 : tie.Need-returns-2
 returns-2 c = search label-laws
 
-shared-slice-read-if3 : tie.Need-shared-slice-read-if3
-shared-slice-read-if3 c = search label-laws
+has-label-ends-requires : tie.Need-has-label-ends-requires
+has-label-ends-requires c κs = search label-laws
 
 returns-3 : tie.Need-returns-3
 returns-3 c = search label-laws
 
-sub-if4 : tie.Need-sub-if4
-sub-if4 c = search label-laws
-
-shared-slice-read-if4 : tie.Need-shared-slice-read-if4
-shared-slice-read-if4 c = search label-laws
-
-returns-4 : tie.Need-returns-4
-returns-4 c = search label-laws
-
 label-from-requires : tie.Need-label-from-requires
 label-from-requires c κs = search label-laws
 
-returns-5 : tie.Need-returns-5
-returns-5 c = search label-laws
+returns-4 : tie.Need-returns-4
+returns-4 c = search label-laws
 
 pub is-label-spec : {M : Type 1} → statement M
 is-label-spec =
     tie.close
     (tie.spec
     returns
+    shared-slice-read-if2
     returns-2
-    shared-slice-read-if3
+    has-label-ends-requires
     returns-3
-    sub-if4
-    shared-slice-read-if4
-    returns-4
     label-from-requires
-    returns-5)
+    returns-4)

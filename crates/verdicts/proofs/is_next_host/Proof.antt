@@ -12,5 +12,9 @@ returns-2 : tie.Need-returns-2
 unfolding isNextHost
 returns-2 c = search tests
 
+returns-3 : tie.Need-returns-3
+unfolding isNextHost
+returns-3 c = search tests
+
 pub is-next-host-spec : {M : Type 1} → statement M
-is-next-host-spec = tie.close (tie.spec returns returns-2)
+is-next-host-spec = tie.close (tie.spec returns returns-2 returns-3)
