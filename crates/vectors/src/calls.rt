@@ -1,10 +1,14 @@
 // The calls of the library that a case can make. A new call is a function here, named in `run`: it asks that the line's
 // fields be of the right kinds (w a word, n a number, b bytes, = the sign `=>`), makes the call and compares the answers.
+// The facts of a host are given by name: facts.rt.
+use crate::facts;
 use crate::line::Fields;
 use crate::line::bytes_at;
 use crate::line::has_kinds;
+use crate::line::has_kinds_at;
 use crate::line::name;
 use crate::line::number_at;
+use hosts::HostAnswer;
 use libc::STDOUT_FILENO;
 use txt::TxtAnswer;
 
@@ -21,8 +25,9 @@ pub struct Answer {
     pub numbers: [u64; 4],
 }
 
-// Runs the case of a line: field 0 names the call, field 1 the case, then come the call's arguments, `=>` and its answer.
-pub(crate) fn run(s: &[u8], f: Fields) -> Outcome {
+// Runs the case of a line: field 0 names the call, field 1 the case, then come the call's arguments, `=>` and its answer. `d` are
+// the fields of the default that holds for the line.
+pub(crate) fn run(s: &[u8], f: Fields, d: Fields) -> Outcome {
     let call = bytes_at(s, f, 0);
     if check::same(call, b"read_txt") {
         return read_txt(s, f);
@@ -31,7 +36,7 @@ pub(crate) fn run(s: &[u8], f: Fields) -> Outcome {
         return read_policy(s, f);
     }
     if check::same(call, b"judge_host") {
-        return judge_host(s, f);
+        return judge_host(s, f, d);
     }
     if check::same(call, b"next_host") {
         return next_host(s, f);
@@ -100,45 +105,56 @@ fn read_policy(s: &[u8], f: Fields) -> Outcome {
     )
 }
 
-fn judge_host(s: &[u8], f: Fields) -> Outcome {
-    if !has_kinds(f, b"wwnbnbnbnbnnnbbnbbnnnbbbbbnbbnb=nn") {
+// The last three fields are `=>` and the answer; those before are facts. A case whose default can't be read can't be read either.
+fn judge_host(s: &[u8], f: Fields, d: Fields) -> Outcome {
+    let n = f.count;
+    if n < 3 {
         return Outcome::Unreadable;
     }
-    let r = tweedstork::tweedstork_judge_host(
-        number_at(f, 2),
-        bytes_at(s, f, 3),
-        number_at(f, 4),
-        bytes_at(s, f, 5),
-        number_at(f, 6),
-        bytes_at(s, f, 7),
-        number_at(f, 8),
-        bytes_at(s, f, 9),
-        number_at(f, 10),
-        number_at(f, 11),
-        number_at(f, 12),
-        bytes_at(s, f, 13),
-        bytes_at(s, f, 14),
-        number_at(f, 15),
-        bytes_at(s, f, 16),
-        bytes_at(s, f, 17),
-        number_at(f, 18),
-        number_at(f, 19),
-        number_at(f, 20),
-        bytes_at(s, f, 21),
-        bytes_at(s, f, 22),
-        bytes_at(s, f, 23),
-        bytes_at(s, f, 24),
-        bytes_at(s, f, 25),
-        number_at(f, 26),
-        bytes_at(s, f, 27),
-        bytes_at(s, f, 28),
-        number_at(f, 29),
-        bytes_at(s, f, 30),
-    );
-    compared(
-        name(s, f),
-        two(number_at(f, 32), number_at(f, 33)),
-        two(r.number, r.tlsa_questions),
+    if !has_kinds_at(f, n - 3, n, b"=nn") {
+        return Outcome::Unreadable;
+    }
+    let expected = two(number_at(f, n - 2), number_at(f, n - 1));
+    let v = facts::of_case(s, f, n - 3, d);
+    if v.is_broken {
+        return Outcome::Unreadable;
+    }
+    let r = judged(s, v);
+    compared(name(s, f), expected, two(r.number, r.tlsa_questions))
+}
+
+// The call on a host with the values of its facts, in the order of the list that `facts::with_fact` has.
+fn judged(s: &[u8], v: Fields) -> HostAnswer {
+    tweedstork::tweedstork_judge_host(
+        number_at(v, 0),
+        bytes_at(s, v, 1),
+        number_at(v, 2),
+        bytes_at(s, v, 3),
+        number_at(v, 4),
+        bytes_at(s, v, 5),
+        number_at(v, 6),
+        bytes_at(s, v, 7),
+        number_at(v, 8),
+        number_at(v, 9),
+        number_at(v, 10),
+        bytes_at(s, v, 11),
+        bytes_at(s, v, 12),
+        number_at(v, 13),
+        bytes_at(s, v, 14),
+        bytes_at(s, v, 15),
+        number_at(v, 16),
+        number_at(v, 17),
+        number_at(v, 18),
+        bytes_at(s, v, 19),
+        bytes_at(s, v, 20),
+        bytes_at(s, v, 21),
+        bytes_at(s, v, 22),
+        bytes_at(s, v, 23),
+        number_at(v, 24),
+        bytes_at(s, v, 25),
+        bytes_at(s, v, 26),
+        number_at(v, 27),
+        bytes_at(s, v, 28),
     )
 }
 

@@ -3,15 +3,18 @@
 // A field is a word, as `next_host` or `20`, the sign `=>`, or bytes. Bytes are items with nothing between them: texts, as
 // `"a\n"`, and lists of four-byte numbers, as `[20 10]`. `*` and a number after an item says how often it stands there, as
 // `"a"*253`. The escapes of a text are `\n`, `\r`, `\t`, `\\`, `\"` and `\xHH`. A lone `-` is no bytes.
+// A name and `=`, as in `clock=1000`, are a field too; the field after it, its value, follows without a space.
 
-const MOST_FIELDS: usize = 40;
+pub(crate) const MOST_FIELDS: usize = 96;
 
-// The kinds of field: a word, a word that is a number below 2^64, bytes, and `=>`.
-const WORD: u8 = b'w';
+// The kinds of field: a word, a word that is a number below 2^64, bytes, a name before its value, and `=>`.
+pub(crate) const WORD: u8 = b'w';
 
 const NUMBER: u8 = b'n';
 
 const BYTES: u8 = b'b';
+
+pub(crate) const NAME: u8 = b':';
 
 const ARROW: u8 = b'=';
 
@@ -48,6 +51,8 @@ pub enum Mode {
     // a space after `-` or `=>`: the field's kind
     Space(u8),
     Word(Decimal),
+    // a value, right after its name and `=`
+    Value,
     Text,
     Escape,
     HighDigit,
@@ -90,13 +95,13 @@ pub enum End {
     Nowhere,
 }
 
-// The fields of a line, decoded into `out`.
-pub(crate) fn read(line: &[u8], out: &mut [u8]) -> Fields {
-    let mut f = none();
+// The fields of a line, decoded into `out` from a place on.
+pub(crate) fn read(line: &[u8], out: &mut [u8], from: usize) -> Fields {
+    let mut f = none(from);
     let mut p = Place {
         mode: Mode::Between,
-        item: 0,
-        at: 0,
+        item: from,
+        at: from,
     };
     let mut i = 0;
     while i < line.len() {
@@ -112,8 +117,24 @@ pub(crate) fn read(line: &[u8], out: &mut [u8]) -> Fields {
 
 // Whether a line is whole and its fields are of these kinds, a letter each.
 pub(crate) fn has_kinds(f: Fields, kinds: &[u8]) -> bool {
+    has_kinds_at(f, 0, f.count, kinds)
+}
+
+// Whether a line is whole and its fields from a up to e are of these kinds.
+pub(crate) fn has_kinds_at(f: Fields, a: usize, e: usize, kinds: &[u8]) -> bool {
     let found = f.kinds;
-    !f.is_broken && check::same(part(&found, 0, f.count), kinds)
+    !f.is_broken && check::same(part(&found, a, e), kinds)
+}
+
+// The kind of field k, or 0 where there is no such field.
+pub(crate) fn kind_at(f: Fields, k: usize) -> u8 {
+    if k >= f.count {
+        return 0;
+    }
+    if k >= MOST_FIELDS {
+        return 0;
+    }
+    f.kinds[k]
 }
 
 // The value of field k, or 0 where it is no number.
@@ -136,15 +157,14 @@ pub(crate) fn bytes_at(s: &[u8], f: Fields, k: usize) -> &[u8] {
 
 // The name of a line's case: its second field, or the first where that is no word.
 pub(crate) fn name(s: &[u8], f: Fields) -> &[u8] {
-    let kinds = f.kinds;
-    if f.count < 2 || kinds[1] == BYTES {
+    if kind_at(f, 1) != WORD {
         return bytes_at(s, f, 0);
     }
     bytes_at(s, f, 1)
 }
 
 // s[a..e], or no bytes where that does not lie inside.
-fn part(s: &[u8], a: usize, e: usize) -> &[u8] {
+pub(crate) fn part(s: &[u8], a: usize, e: usize) -> &[u8] {
     if a <= e {
         if e <= s.len() {
             return &s[a..e];
@@ -153,7 +173,8 @@ fn part(s: &[u8], a: usize, e: usize) -> &[u8] {
     &s[0..0]
 }
 
-fn none() -> Fields {
+// The fields of an empty line, decoded from a place on.
+pub(crate) fn none(from: usize) -> Fields {
     let x = Field {
         start: 0,
         end: 0,
@@ -162,7 +183,7 @@ fn none() -> Fields {
     Fields {
         is_broken: false,
         count: 0,
-        end: 0,
+        end: from,
         kinds: [WORD; MOST_FIELDS],
         list: [x; MOST_FIELDS],
     }
@@ -173,6 +194,7 @@ fn with_ended(f: Fields, p: Place) -> Fields {
     let mode = p.mode;
     match mode {
         Mode::Ended(kind, value) => with_field(f, kind, p.at, value),
+        Mode::Value => with_field(f, NAME, p.at, 0),
         _ => f,
     }
 }
@@ -323,6 +345,7 @@ fn next(mode: Mode, b: u8) -> Action {
             Action::Stop
         },
         Mode::Word(so_far) => in_word(so_far, b),
+        Mode::Value => at_value(b),
         Mode::Text => in_text(b),
         Mode::Escape => in_escape(b),
         Mode::HighDigit => Action::Nothing(Mode::LowDigit(hex_digit(b))),
@@ -347,7 +370,18 @@ fn at_field(b: u8) -> Action {
     }
 }
 
+// A value follows its name and `=` at once.
+fn at_value(b: u8) -> Action {
+    match b {
+        b' ' | b'=' => Action::Stop,
+        _ => at_field(b),
+    }
+}
+
 fn in_word(so_far: Decimal, b: u8) -> Action {
+    if b == b'=' {
+        return Action::Nothing(Mode::Value);
+    }
     if b != b' ' {
         return Action::Put(b, Mode::Word(with_digit(so_far, b)));
     }

@@ -1,14 +1,17 @@
 // Runs the cases of the files that `main` names: a case is a line with a call of the library and the answer that it must
 // give. Writes a line for each case that fails, and last how many passed and how many failed.
 mod calls;
+mod facts;
 mod line;
 
 use calls::Outcome;
 use calls::say;
 use calls::say_number;
+use line::Fields;
+use line::part;
 use std::num::wrapping_add_u64;
 
-// The most bytes that a file of cases has, and the most that the fields of a line have once they are decoded.
+// The most bytes that a file of cases has, and the most that the fields of a line and of its default have once they are decoded.
 const FILE_ROOM: usize = 131072;
 
 const LINE_ROOM: usize = 262144;
@@ -16,6 +19,13 @@ const LINE_ROOM: usize = 262144;
 pub struct Count {
     pub passed: u64,
     pub failed: u64,
+}
+
+// What has come of a file up to a line: the count, and where the default that holds stands in its text.
+pub struct Progress {
+    pub count: Count,
+    pub default_start: usize,
+    pub default_end: usize,
 }
 
 fn main() {
@@ -53,30 +63,57 @@ fn run_file(path: &[u8], c: Count) -> Count {
 }
 
 fn run_lines(text: &[u8], room: &mut [u8], before: Count) -> Count {
-    let mut c = before;
+    let mut p = Progress {
+        count: before,
+        default_start: 0,
+        default_end: 0,
+    };
     let mut at = 0;
     while at < text.len() {
         let end = bytes::scan::find(text, at, text.len(), b'\n');
-        c = with_line(c, &text[at..end], room);
+        p = with_line(p, text, at, end, room);
         at = end + 1;
+    }
+    p.count
+}
+
+// What has come of a file after the line text[at..end]. An empty line and one that begins with `#` are no case.
+fn with_line(p: Progress, text: &[u8], at: usize, end: usize, room: &mut [u8]) -> Progress {
+    let line = part(text, at, end);
+    if line.len() == 0 {
+        return p;
+    }
+    if line[0] == b'#' {
+        return p;
+    }
+    let d = line::read(part(text, p.default_start, p.default_end), room, 0);
+    let f = line::read(line, room, d.end);
+    if facts::is_default(room, f) {
+        return Progress {
+            count: with_default(p.count, room, f),
+            default_start: at,
+            default_end: end,
+        };
+    }
+    Progress {
+        count: run_case(p.count, room, f, d),
+        default_start: p.default_start,
+        default_end: p.default_end,
+    }
+}
+
+// A default is no case. One that can't be read counts as a case that failed. It holds all the same, so that no case after it runs
+// on an older one: they can't be read either.
+fn with_default(c: Count, room: &[u8], line: Fields) -> Count {
+    let d = facts::of_default(room, line);
+    if d.is_broken {
+        return failed(b"default", b": cannot be read\n", c);
     }
     c
 }
 
-// The count after a line. An empty line and one that begins with `#` are no case.
-fn with_line(c: Count, line: &[u8], room: &mut [u8]) -> Count {
-    if line.len() == 0 {
-        return c;
-    }
-    if line[0] == b'#' {
-        return c;
-    }
-    run_case(c, line, room)
-}
-
-fn run_case(c: Count, line: &[u8], room: &mut [u8]) -> Count {
-    let f = line::read(line, room);
-    match calls::run(room, f) {
+fn run_case(c: Count, room: &[u8], f: Fields, d: Fields) -> Count {
+    match calls::run(room, f, d) {
         Outcome::Passed => with_passed(c),
         Outcome::Differs => with_failed(c),
         Outcome::Unreadable => unreadable(line::name(room, f), c),

@@ -7,25 +7,16 @@ use Rattle.vectors.proofs.run_lines.Statement.{statement}
 use Rattle.vectors.proofs.run_lines.Tie as tie
 
 abbrev Inv-loop : tie.InvT-loop
-Inv-loop text room₀ c₀ at₀ room c at = length room ≡ length room₀
+Inv-loop text room₀ p₀ at₀ room p at = length room ≡ length room₀
 
 abbrev μ-loop : tie.MeasureT-loop
-μ-loop text room₀ c₀ at₀ room c at = length text - at
+μ-loop text room₀ p₀ at₀ room p at = length text - at
 
 loop-holds : tie.Need-loop-holds Inv-loop μ-loop
 loop-holds c = search needs
 
 find-requires : tie.Need-find-requires Inv-loop μ-loop
 find-requires c κs = search needs
-
-sub-with-line : tie.Need-sub-with-line Inv-loop μ-loop
-sub-with-line c = search needs
-
-part-with-line-start : tie.Need-part-with-line-start Inv-loop μ-loop
-part-with-line-start c = search needs
-
-part-with-line-end : tie.Need-part-with-line-end Inv-loop μ-loop
-part-with-line-end c = search needs
 
 with-line-requires : tie.Need-with-line-requires Inv-loop μ-loop
 with-line-requires c κs = search needs
@@ -53,9 +44,6 @@ run-lines-spec =
     μ-loop
     loop-holds
     find-requires
-    sub-with-line
-    part-with-line-start
-    part-with-line-end
     with-line-requires
     add-at
     loop-less

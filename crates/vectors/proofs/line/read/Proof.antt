@@ -7,10 +7,10 @@ use Rattle.vectors.proofs.line.read.Statement.{statement}
 use Rattle.vectors.proofs.line.read.Tie as tie
 
 abbrev Inv-loop : tie.InvT-loop
-Inv-loop line out₀ f₀ p₀ i₀ out f p i = (i ≤ length line) × (length out ≡ length out₀)
+Inv-loop line out₀ from f₀ p₀ i₀ out f p i = (i ≤ length line) × (length out ≡ length out₀)
 
 abbrev μ-loop : tie.MeasureT-loop
-μ-loop line out₀ f₀ p₀ i₀ out f p i = length line - i
+μ-loop line out₀ from f₀ p₀ i₀ out f p i = length line - i
 
 none-requires : tie.Need-none-requires Inv-loop μ-loop
 none-requires c κs = search needs
