@@ -2,9 +2,9 @@
 // fields be of the right kinds (w a word, n a number, b bytes, = the sign `=>`), makes the call and compares the answers.
 // The facts of a host are given by name: facts.rt.
 use crate::facts;
+use crate::facts::Found;
 use crate::line::Fields;
 use crate::line::bytes_at;
-use crate::line::has_kinds;
 use crate::line::has_kinds_at;
 use crate::line::name;
 use crate::line::number_at;
@@ -28,27 +28,28 @@ pub struct Answer {
 // Runs the case of a line: field 0 names the call, field 1 the case, then come the call's arguments, `=>` and its answer. `d` are
 // the fields of the default that holds for the line.
 pub(crate) fn run(s: &[u8], f: Fields, d: Fields) -> Outcome {
-    let call = bytes_at(s, f, 0);
-    if check::same(call, b"read_txt") {
-        return read_txt(s, f);
+    let found = facts::item_of(
+        b"read_txt;read_policy;judge_host;next_host",
+        b';',
+        bytes_at(s, f, 0),
+    );
+    let Found::At(call) = found else {
+        return Outcome::Unreadable;
+    };
+    let place = call.place;
+    match place {
+        0 => read_txt(s, f),
+        1 => read_policy(s, f),
+        2 => judge_host(s, f, d),
+        _ => next_host(s, f),
     }
-    if check::same(call, b"read_policy") {
-        return read_policy(s, f);
-    }
-    if check::same(call, b"judge_host") {
-        return judge_host(s, f, d);
-    }
-    if check::same(call, b"next_host") {
-        return next_host(s, f);
-    }
-    Outcome::Unreadable
 }
 
 // The most bytes that a case lends as output.
 const OUTPUT_ROOM: usize = 4096;
 
 fn read_txt(s: &[u8], f: Fields) -> Outcome {
-    if !has_kinds(f, b"wwbbb=nnnb") {
+    if !has_kinds_at(f, 0, f.count, b"wwbbb=nnnb") {
         return Outcome::Unreadable;
     }
     let mut room = [0u8; OUTPUT_ROOM];
@@ -83,25 +84,26 @@ fn compared_txt(s: &[u8], f: Fields, r: TxtAnswer, output: &[u8]) -> Outcome {
     }
     compared(
         name(s, f),
-        three(number_at(f, 6), number_at(f, 7), number_at(f, 8)),
-        three(r.number, r.id_start, r.id_length),
+        answer_of(3, number_at(f, 6), number_at(f, 7), number_at(f, 8), 0),
+        answer_of(3, r.number, r.id_start, r.id_length, 0),
     )
 }
 
 fn read_policy(s: &[u8], f: Fields) -> Outcome {
-    if !has_kinds(f, b"wwb=nnnn") {
+    if !has_kinds_at(f, 0, f.count, b"wwb=nnnn") {
         return Outcome::Unreadable;
     }
     let r = tweedstork::tweedstork_read_policy(bytes_at(s, f, 2));
     compared(
         name(s, f),
-        four(
+        answer_of(
+            4,
             number_at(f, 4),
             number_at(f, 5),
             number_at(f, 6),
             number_at(f, 7),
         ),
-        four(r.number, r.mode, r.lifetime, r.mx_count),
+        answer_of(4, r.number, r.mode, r.lifetime, r.mx_count),
     )
 }
 
@@ -114,13 +116,17 @@ fn judge_host(s: &[u8], f: Fields, d: Fields) -> Outcome {
     if !has_kinds_at(f, n - 3, n, b"=nn") {
         return Outcome::Unreadable;
     }
-    let expected = two(number_at(f, n - 2), number_at(f, n - 1));
+    let expected = answer_of(2, number_at(f, n - 2), number_at(f, n - 1), 0, 0);
     let v = facts::of_case(s, f, n - 3, d);
     if v.is_broken {
         return Outcome::Unreadable;
     }
     let r = judged(s, v);
-    compared(name(s, f), expected, two(r.number, r.tlsa_questions))
+    compared(
+        name(s, f),
+        expected,
+        answer_of(2, r.number, r.tlsa_questions, 0, 0),
+    )
 }
 
 // The call on a host with the values of its facts, in the order of the list that `facts::with_fact` has.
@@ -159,34 +165,21 @@ fn judged(s: &[u8], v: Fields) -> HostAnswer {
 }
 
 fn next_host(s: &[u8], f: Fields) -> Outcome {
-    if !has_kinds(f, b"wwnbb=nn") {
+    if !has_kinds_at(f, 0, f.count, b"wwnbb=nn") {
         return Outcome::Unreadable;
     }
     let r = tweedstork::tweedstork_next_host(number_at(f, 2), bytes_at(s, f, 3), bytes_at(s, f, 4));
     compared(
         name(s, f),
-        two(number_at(f, 6), number_at(f, 7)),
-        two(r.number, r.position),
+        answer_of(2, number_at(f, 6), number_at(f, 7), 0, 0),
+        answer_of(2, r.number, r.position, 0, 0),
     )
 }
 
-fn two(a: u64, b: u64) -> Answer {
+// An answer of so many numbers; the others are 0.
+fn answer_of(count: usize, a: u64, b: u64, c: u64, d: u64) -> Answer {
     Answer {
-        count: 2,
-        numbers: [a, b, 0, 0],
-    }
-}
-
-fn three(a: u64, b: u64, c: u64) -> Answer {
-    Answer {
-        count: 3,
-        numbers: [a, b, c, 0],
-    }
-}
-
-fn four(a: u64, b: u64, c: u64, d: u64) -> Answer {
-    Answer {
-        count: 4,
+        count: count,
         numbers: [a, b, c, d],
     }
 }

@@ -151,23 +151,20 @@ fn with_value(
     if kind != WORD {
         return broken(v);
     }
-    match item_of(rest, b' ', part(s, x.start, x.end)) {
-        Found::At(word) => with_code(v, place, word.place, by),
-        Found::Nothing => broken(v),
-    }
-}
-
-// The values with a code, whose word stands among the words after a fact's name. The first two are none: nothing, and n or b.
-fn with_code(v: Fields, place: usize, word: usize, by: u8) -> Fields {
-    if word < 2 {
+    let found = item_of(rest, b' ', part(s, x.start, x.end));
+    let Found::At(word) = found else {
+        return broken(v);
+    };
+    // the first two are no words for codes: nothing, and n or b
+    if word.place < 2 {
         return broken(v);
     }
-    let x = Field {
+    let code = Field {
         start: 0,
         end: 0,
-        value: (word - 2) as u64,
+        value: (word.place - 2) as u64,
     };
-    with_field_at(v, place, x, by)
+    with_field_at(v, place, code, by)
 }
 
 // The values with the one at a place, unless the same line has given it before.
@@ -189,7 +186,7 @@ fn broken(mut v: Fields) -> Fields {
 }
 
 // The item of a list, with a separator between each two, whose first word is this one.
-fn item_of(list: &[u8], separator: u8, word: &[u8]) -> Found {
+pub(crate) fn item_of(list: &[u8], separator: u8, word: &[u8]) -> Found {
     let mut k = 0;
     let mut at = 0;
     while at < list.len() {

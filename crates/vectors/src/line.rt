@@ -115,12 +115,7 @@ pub(crate) fn read(line: &[u8], out: &mut [u8], from: usize) -> Fields {
     finished(f, p)
 }
 
-// Whether a line is whole and its fields are of these kinds, a letter each.
-pub(crate) fn has_kinds(f: Fields, kinds: &[u8]) -> bool {
-    has_kinds_at(f, 0, f.count, kinds)
-}
-
-// Whether a line is whole and its fields from a up to e are of these kinds.
+// Whether a line is whole and its fields from a up to e are of these kinds, a letter each.
 pub(crate) fn has_kinds_at(f: Fields, a: usize, e: usize, kinds: &[u8]) -> bool {
     let found = f.kinds;
     !f.is_broken && check::same(part(&found, a, e), kinds)

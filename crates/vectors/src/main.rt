@@ -8,6 +8,7 @@ use calls::Outcome;
 use calls::say;
 use calls::say_number;
 use line::Fields;
+use line::bytes_at;
 use line::part;
 use std::num::wrapping_add_u64;
 
@@ -48,7 +49,7 @@ fn main() {
 fn run_file(path: &[u8], c: Count) -> Count {
     let fd = os::open_read(path);
     if fd < 0 {
-        return failed(path, b": cannot be opened\n", c);
+        return unreadable(path, c);
     }
     let mut text = [0u8; FILE_ROOM];
     let n = io::read_full(fd, &mut text);
@@ -56,7 +57,7 @@ fn run_file(path: &[u8], c: Count) -> Count {
     let rest = libc::read(fd, &mut more);
     libc::close(fd);
     if rest != 0 {
-        return failed(path, b": cannot be read to its end\n", c);
+        return unreadable(path, c);
     }
     let mut room = [0u8; LINE_ROOM];
     run_lines(&text[..n], &mut room, c)
@@ -107,39 +108,28 @@ fn with_line(p: Progress, text: &[u8], at: usize, end: usize, room: &mut [u8]) -
 fn with_default(c: Count, room: &[u8], line: Fields) -> Count {
     let d = facts::of_default(room, line);
     if d.is_broken {
-        return failed(b"default", b": cannot be read\n", c);
+        return unreadable(bytes_at(room, line, 0), c);
     }
     c
 }
 
 fn run_case(c: Count, room: &[u8], f: Fields, d: Fields) -> Count {
     match calls::run(room, f, d) {
-        Outcome::Passed => with_passed(c),
-        Outcome::Differs => with_failed(c),
+        Outcome::Passed => counted(c, 1, 0),
+        Outcome::Differs => counted(c, 0, 1),
         Outcome::Unreadable => unreadable(line::name(room, f), c),
     }
 }
 
-fn unreadable(case: &[u8], c: Count) -> Count {
-    if case.len() == 0 {
-        return failed(b"a case without a name", b": cannot be read\n", c);
-    }
-    failed(case, b": cannot be read\n", c)
-}
-
-// Says why a case or a file failed, and counts it.
-fn failed(what: &[u8], why: &[u8], c: Count) -> Count {
+// Says that a case, a default or a file can't be read, and counts it as failed.
+fn unreadable(what: &[u8], c: Count) -> Count {
     say(what);
-    say(why);
-    with_failed(c)
+    say(b": cannot be read\n");
+    counted(c, 0, 1)
 }
 
-fn with_passed(mut c: Count) -> Count {
-    c.passed = wrapping_add_u64(c.passed, 1);
-    c
-}
-
-fn with_failed(mut c: Count) -> Count {
-    c.failed = wrapping_add_u64(c.failed, 1);
+fn counted(mut c: Count, passed: u64, failed: u64) -> Count {
+    c.passed = wrapping_add_u64(c.passed, passed);
+    c.failed = wrapping_add_u64(c.failed, failed);
     c
 }
