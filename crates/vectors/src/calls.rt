@@ -78,8 +78,8 @@ fn read_txt_into(s: &[u8], f: Fields, before: &[u8], output: &mut [u8]) -> Outco
 // The last field of the answer is the whole output after the call.
 fn compared_txt(s: &[u8], f: Fields, r: TxtAnswer, output: &[u8]) -> Outcome {
     if !check::same(output, bytes_at(s, f, 9)) {
-        say(name(s, f));
-        say(b": output differs\n");
+        io::write_all(STDOUT_FILENO, name(s, f));
+        io::write_all(STDOUT_FILENO, b": output differs\n");
         return Outcome::Differs;
     }
     compared(
@@ -117,7 +117,7 @@ fn judge_host(s: &[u8], f: Fields, d: Fields) -> Outcome {
         return Outcome::Unreadable;
     }
     let expected = answer_of(2, number_at(f, n - 2), number_at(f, n - 1), 0, 0);
-    let v = facts::of_case(s, f, n - 3, d);
+    let v = facts::with_facts(s, facts::of_default(s, d), f, n - 3, facts::BY_CASE);
     if v.is_broken {
         return Outcome::Unreadable;
     }
@@ -186,27 +186,23 @@ fn answer_of(count: usize, a: u64, b: u64, c: u64, d: u64) -> Answer {
 
 // Compares a case's answers, and says where they differ.
 fn compared(case: &[u8], expected: Answer, got: Answer) -> Outcome {
-    if is_same(expected, got) {
+    let a = expected.numbers;
+    let b = got.numbers;
+    if a[0] == b[0] && a[1] == b[1] && a[2] == b[2] && a[3] == b[3] {
         return Outcome::Passed;
     }
-    say(case);
-    say(b": expected ");
+    io::write_all(STDOUT_FILENO, case);
+    io::write_all(STDOUT_FILENO, b": expected ");
     say_answer(expected);
-    say(b", got ");
+    io::write_all(STDOUT_FILENO, b", got ");
     say_answer(got);
-    say(b"\n");
+    io::write_all(STDOUT_FILENO, b"\n");
     Outcome::Differs
-}
-
-fn is_same(x: Answer, y: Answer) -> bool {
-    let a = x.numbers;
-    let b = y.numbers;
-    a[0] == b[0] && a[1] == b[1] && a[2] == b[2] && a[3] == b[3]
 }
 
 fn say_answer(a: Answer) {
     let n = a.numbers;
-    say_number(n[0]);
+    io::print_decimal(STDOUT_FILENO, n[0]);
     say_more(1 < a.count, n[1]);
     say_more(2 < a.count, n[2]);
     say_more(3 < a.count, n[3]);
@@ -214,15 +210,7 @@ fn say_answer(a: Answer) {
 
 fn say_more(is_there: bool, n: u64) {
     if is_there {
-        say(b" ");
-        say_number(n);
+        io::write_all(STDOUT_FILENO, b" ");
+        io::print_decimal(STDOUT_FILENO, n);
     }
-}
-
-pub(crate) fn say_number(n: u64) {
-    io::print_decimal(STDOUT_FILENO, n);
-}
-
-pub(crate) fn say(text: &[u8]) {
-    io::write_all(STDOUT_FILENO, text);
 }

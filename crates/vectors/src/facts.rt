@@ -18,7 +18,7 @@ use crate::line::part;
 
 const BY_DEFAULT: u8 = b'd';
 
-const BY_CASE: u8 = b'c';
+pub(crate) const BY_CASE: u8 = b'c';
 
 // An item of a list: its place among the items, from 0 on, and where what follows its first word stands in the list.
 pub struct Item {
@@ -30,10 +30,6 @@ pub struct Item {
 pub enum Found {
     At(Item),
     Nothing,
-}
-
-pub(crate) fn is_default(s: &[u8], f: Fields) -> bool {
-    check::same(bytes_at(s, f, 0), b"default")
 }
 
 // The values that a default states. Before the first default of a file it is an empty line.
@@ -48,13 +44,8 @@ pub(crate) fn of_default(s: &[u8], f: Fields) -> Fields {
     with_facts(s, v, f, f.count, BY_DEFAULT)
 }
 
-// The values of a case with the facts from field 2 up to `end`, over a default with the fields d.
-pub(crate) fn of_case(s: &[u8], f: Fields, end: usize, d: Fields) -> Fields {
-    with_facts(s, of_default(s, d), f, end, BY_CASE)
-}
-
 // The values with those that a line gives: two words, then up to field `end` a name and a value in turn.
-fn with_facts(s: &[u8], values: Fields, f: Fields, end: usize, by: u8) -> Fields {
+pub(crate) fn with_facts(s: &[u8], values: Fields, f: Fields, end: usize, by: u8) -> Fields {
     let mut v = values;
     if !has_kinds_at(f, 0, 2, b"ww") {
         return broken(v);
@@ -73,8 +64,7 @@ fn with_facts(s: &[u8], values: Fields, f: Fields, end: usize, by: u8) -> Fields
 // The values with the one that field k names and field k + 1 gives. The list has the facts in the order of the arguments: the
 // name, n for a number or b for bytes, and the words for its codes from 0 on (`-`, which is no word, for a code without one).
 fn with_fact(s: &[u8], v: Fields, f: Fields, k: usize, by: u8) -> Fields {
-    with_fact_of(
-        b"clock n;\
+    let facts = b"clock n;\
         next_hop b;\
         origin n - secure_mx insecure_mx no_mx;\
         host b;\
@@ -102,16 +92,7 @@ fn with_fact(s: &[u8], v: Fields, f: Fields, k: usize, by: u8) -> Fields {
         dns_ids b;\
         dns_id_lengths b;\
         common_name_given n - yes no;\
-        common_name b",
-        s,
-        v,
-        f,
-        k,
-        by,
-    )
-}
-
-fn with_fact_of(facts: &[u8], s: &[u8], v: Fields, f: Fields, k: usize, by: u8) -> Fields {
+        common_name b";
     if kind_at(f, k) != NAME {
         return broken(v);
     }
