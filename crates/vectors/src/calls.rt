@@ -8,7 +8,6 @@ use crate::line::bytes_at;
 use crate::line::has_kinds_at;
 use crate::line::name;
 use crate::line::number_at;
-use hosts::HostAnswer;
 use libc::STDOUT_FILENO;
 use txt::TxtAnswer;
 
@@ -121,17 +120,8 @@ fn judge_host(s: &[u8], f: Fields, d: Fields) -> Outcome {
     if v.is_broken {
         return Outcome::Unreadable;
     }
-    let r = judged(s, v);
-    compared(
-        name(s, f),
-        expected,
-        answer_of(2, r.number, r.tlsa_questions, 0, 0),
-    )
-}
-
-// The call on a host with the values of its facts, in the order of the list that `facts::with_fact` has.
-fn judged(s: &[u8], v: Fields) -> HostAnswer {
-    tweedstork::tweedstork_judge_host(
+    // in the order of the list that `facts::with_fact` has
+    let r = tweedstork::tweedstork_judge_host(
         number_at(v, 0),
         bytes_at(s, v, 1),
         number_at(v, 2),
@@ -161,6 +151,11 @@ fn judged(s: &[u8], v: Fields) -> HostAnswer {
         bytes_at(s, v, 26),
         number_at(v, 27),
         bytes_at(s, v, 28),
+    );
+    compared(
+        name(s, f),
+        expected,
+        answer_of(2, r.number, r.tlsa_questions, 0, 0),
     )
 }
 

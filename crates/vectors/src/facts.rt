@@ -1,5 +1,5 @@
 // The facts of a host, which a line gives by name, as `origin=no_mx host="mx.example.com"`: the arguments of tweedstork_judge_host.
-// A new one is an item of the list in `with_fact`, in the place of its argument, and an argument in `calls::judged`.
+// A new one is an item of the list in `with_fact`, in the place of its argument, and an argument in `calls::judge_host`.
 //
 // A default is a line as `default judge_host clock=1000 ..`. It states the facts that the cases after it don't give, up to the
 // file's end or the next default. What neither gives is 0 or no bytes.

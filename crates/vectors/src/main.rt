@@ -95,8 +95,9 @@ fn with_line(p: Progress, text: &[u8], at: usize, end: usize, room: &mut [u8]) -
             default_end: end,
         };
     }
+    let outcome = calls::run(room, f, d);
     Progress {
-        count: run_case(p.count, room, f, d),
+        count: with_outcome(p.count, outcome, line::name(room, f)),
         default_start: p.default_start,
         default_end: p.default_end,
     }
@@ -112,11 +113,12 @@ fn with_default(c: Count, room: &[u8], line: Fields) -> Count {
     c
 }
 
-fn run_case(c: Count, room: &[u8], f: Fields, d: Fields) -> Count {
-    match calls::run(room, f, d) {
+// The count after a case that came to an outcome.
+fn with_outcome(c: Count, outcome: Outcome, case: &[u8]) -> Count {
+    match outcome {
         Outcome::Passed => counted(c, 1, 0),
         Outcome::Differs => counted(c, 0, 1),
-        Outcome::Unreadable => unreadable(line::name(room, f), c),
+        Outcome::Unreadable => unreadable(case, c),
     }
 }
 
