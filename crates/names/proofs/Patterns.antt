@@ -17,8 +17,8 @@ use Rattle.lists.proofs.Laws.{take-rest}
 use Rattle.lists.proofs.Span.{span-le, span-reaches}
 use Rattle.lists.proofs.Split.{split-first}
 use Rattle.names.specs.declared.Pattern.{Pattern}
-use Rattle.names.specs.Name.{labelByte, isLabel, isName, isStarred, isWildcard, isPattern, afterFirst, matchesName}
-use Rattle.names.specs.Scan.{labelEnds, patternFor}
+use Rattle.names.specs.Name.{labelByte, isLabel, isName, isStarred, isWildcard, isPattern, afterFirst, matchesName, patternFor}
+use Rattle.names.specs.Scan.{labelEnds}
 use Rattle.names.proofs.Cover.{name-same, name-labels, same-nothing}
 use Rattle.names.proofs.Match.{starred-long, starred-no-name}
 

@@ -1,13 +1,15 @@
 -- Document 01, "Names and matching".
 use Prim.Native.Char.{code}
 use Prim.Native.Nat.{ℕ, _+_, _-_}
-use mathlib.Core.Bool.{Bool, not, _&&_, _||_}
+use mathlib.Core.Bool.{Bool, cond, not, _&&_, _||_}
 use mathlib.Core.List.{List}
 use lib.Dec.{eqb, leb}
 use lib.ListN.{length, getD, drop}
 use Rattle.lists.specs.Bytes.{within, all, any}
 use Rattle.lists.specs.Equal.{sameText}
 use Rattle.lists.specs.Split.{indexOf, split}
+use Rattle.names.specs.declared.Pattern.{Pattern}
+use Rattle.names.specs.declared.Pattern.the-variants.{Malformed, Matching, Other}
 
 -- a letter, a digit or a hyphen
 unfoldable pub labelByte : ℕ → Bool
@@ -40,6 +42,10 @@ afterFirst n = drop (indexOf (code ".") n + 1) n
 -- p matches the name n: a plain name the equal name only, `*.N` the names made of one label, a dot and N, ignoring ASCII case; anything else nothing
 unfoldable pub matchesName : List ℕ → List ℕ → Bool
 matchesName p n = isName n && (isName p && sameText p n || isWildcard p && sameText (drop 2 p) (afterFirst n))
+
+-- what p is for the name n: no pattern; or a pattern that matches n, or another
+unfoldable pub patternFor : List ℕ → List ℕ → Pattern
+patternFor p n = cond (isPattern p) (cond (matchesName p n) Matching Other) Malformed
 
 -- one of some patterns or presented names matches the name n
 abbrev pub someMatches : List (List ℕ) → List ℕ → Bool

@@ -10,8 +10,8 @@ ghost use Rattle.lists.specs.Equal.{sameText};
 ghost use Rattle.lists.specs.Span.{spanOf};
 ghost use Rattle.numbers.specs.Numbers.{numbers};
 ghost use Rattle.numbers.specs.Pieces.{cut};
-ghost use Rattle.names.specs.Name.{labelByte, isLabel, isName, isStarred, isPattern, afterFirst, matchesName, someMatches};
-ghost use Rattle.names.specs.Scan.{startsLabel, labelEnds, patternFor, coversName};
+ghost use Rattle.names.specs.Name.{labelByte, isLabel, isName, isStarred, isPattern, afterFirst, matchesName, patternFor, someMatches};
+ghost use Rattle.names.specs.Scan.{startsLabel, labelEnds, coversName};
 
 // Whether b is a letter, a digit or a hyphen. A dot, which ends most labels, is told before capitals and digits.
 fn is_label_byte(b: u8) -> bool
@@ -137,7 +137,7 @@ pub fn is_pattern(p: &[u8]) -> bool
     is_name(p)
 }
 
-// What a text is as a pattern for n: none, one that matches n, or one that doesn't.
+// What a text is for a name: no pattern; or a pattern that matches the name, or another.
 pub enum Pattern {
     Malformed,
     Matching,

@@ -20,8 +20,7 @@ use Rattle.lists.proofs.Span.{span-le, span-stops}
 use Rattle.lists.proofs.All.{all-drop, all-take}
 use Rattle.lists.proofs.Bools.{never}
 use Rattle.names.specs.declared.Pattern.{Pattern}
-use Rattle.names.specs.Name.{isPattern, matchesName}
-use Rattle.names.specs.Scan.{patternFor}
+use Rattle.names.specs.Name.{isPattern, matchesName, patternFor}
 use Rattle.fields.specs.Name.{after, hasName}
 use Rattle.fields.specs.Blank.{blank, unblanked}
 use Rattle.fields.proofs.Blank.{unblanked-le}
