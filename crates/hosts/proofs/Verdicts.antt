@@ -99,13 +99,13 @@ mode-is M.Enforce = refl
 mode-is M.Testing = refl
 mode-is M.None = refl
 
-made-is : (m : Handshake) → isHandshakeMade m ≡ isEstablished m
+pub made-is : (m : Handshake) → isHandshakeMade m ≡ isEstablished m
 made-is F.established = refl
 made-is F.failed = refl
 
 module _ (b : Base) (f : Full) where
   -- the two readings of the policy and of its check
-  enforced-is : isLiveEnforce (b .clock) (b .policy) ≡ needsMtaSts b
+  pub enforced-is : isLiveEnforce (b .clock) (b .policy) ≡ needsMtaSts b
   unfolding needsMtaSts
   enforced-is = go (b .policy)
     where
@@ -113,7 +113,7 @@ module _ (b : Base) (f : Full) where
       go none = refl
       go (some p) = ap (λ (x : Bool). x && isLive (p .fetched) (p .policy .lifetime .0) (b .clock)) (mode-is (p .policy .mode))
 
-  listed-is : listsHost (b .host) (b .policy) ≡ isListed b
+  pub listed-is : listsHost (b .host) (b .policy) ≡ isListed b
   unfolding isListed any
   listed-is = go (b .policy)
     where

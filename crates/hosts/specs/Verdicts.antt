@@ -1,10 +1,10 @@
--- Document 01, "A host's facts, in the order learnt", read a second time: for each verdict the condition under which it is given, from the paper's sentences, and the count.
--- Nothing here uses the tree of questions (Rules.antt, Tree.antt). proofs/Verdicts.antt proves that of an accepted full set the call answers a verdict exactly where its condition holds.
+-- Document 01, "A host's facts, in the order learnt", read a second time: for each verdict the condition under which it is given, from the paper's sentences; the count; and the facts that the rules reach.
+-- Nothing here uses the tree of questions (Rules.antt, Tree.antt). proofs/Verdicts.antt proves that of an accepted full set the call answers a verdict exactly where its condition holds, and proofs/Reached.antt that the tree reaches these facts.
 use Prim.Native.Nat.{ℕ, _+_}
 use mathlib.Core.Path.{_≡_}
 use mathlib.Core.Logic.{_↔_}
 use mathlib.Core.Bool.{Bool, true, false, not, cond, _&&_, _||_}
-use mathlib.Core.List.{List, [], _∷_}
+use mathlib.Core.List.{List, [], _∷_, _++_}
 use mathlib.Core.Option.{Option, none, some}
 use lib.Dec.{T, ltb}
 use lib.ListN.{length}
@@ -276,6 +276,23 @@ answersUpTo (t ∷ ts) = cond (isNextName (t .answer)) (1 + answersUpTo ts) 1
 -- how many TLSA questions the walk reached: the answers it read; under 20, 21 and 23 it is 0
 unfoldable pub countOf : Base → Full → ℕ
 countOf b f = cond (is20 (testsOf b f) || (is21 (testsOf b f) || is23 (testsOf b f))) 0 (answersUpTo (tried b f (b .address)))
+
+-- the facts that the rules reach
+
+-- the TLSA answers, from a place on, up to the name at which the search ends
+abbrev pub tlsaReached : Place → List Tried → List Fact
+tlsaReached p [] = []
+tlsaReached p (t ∷ ts) = tlsa p ∷ cond (isNextName (t .answer)) (tlsaReached second ts) []
+
+-- STARTTLS; the handshake where it is offered; certificate facts where it is established and DANE authentication or the MTA-STS check is needed
+abbrev pub connectionReached : Tests → List Fact
+connectionReached t = starttls ∷ cond (t .offered) (handshake ∷ cond (t .established && (daneNeeded t || mtaStsNeeded t)) (certificates ∷ []) []) []
+
+-- in document 01's order: none under 20, 21 and 23, and none after the TLSA answers under 22
+unfoldable pub factsReached : Base → Full → List Fact
+factsReached b f =
+    cond (is20 (testsOf b f) || (is21 (testsOf b f) || is23 (testsOf b f))) []
+    (tlsaReached first (tried b f (b .address)) ++ cond (is22 (testsOf b f)) [] (connectionReached (testsOf b f)))
 
 -- the questions
 
