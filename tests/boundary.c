@@ -204,6 +204,15 @@ static void learn_tlsa(struct tweedstork_host_facts *facts, uint64_t result, con
     answer->records.length = length;
 }
 
+/* The same, with one TLSA answer learnt. */
+static struct tweedstork_host_facts known_with(uint64_t address, const char *policy, uint64_t result, const char *record, uint8_t length, uint8_t lengths[4])
+{
+    struct tweedstork_host_facts facts = known(address, policy);
+
+    learn_tlsa(&facts, result, record, length, lengths);
+    return facts;
+}
+
 /* Do certificates matter, whatever else is given of the handshake? A server that shows none fails just where they do. */
 static void matters(const char *name, struct tweedstork_host_facts facts, int wanted)
 {
@@ -248,27 +257,14 @@ static void certificates_matter(void)
     facts.host = text("mail_.example.com");
     matters("bad host name", facts, 0);
 
-    facts = known(TWEEDSTORK_NO_ALIAS_SECURE, NULL);
-    learn_tlsa(&facts, TWEEDSTORK_TLSA_SECURE, usable, 35, first);
-    matters("usable record", facts, 1);
-    facts = known(TWEEDSTORK_NO_ALIAS_SECURE, NULL);
-    learn_tlsa(&facts, TWEEDSTORK_TLSA_SECURE, unusable, 35, first);
-    matters("only an unusable record", facts, 0);
-    facts = known(TWEEDSTORK_NO_ALIAS_SECURE, enforce);
-    learn_tlsa(&facts, TWEEDSTORK_TLSA_SECURE, unusable, 35, first);
-    matters("unusable record, live policy", facts, 1);
-    facts = known(TWEEDSTORK_NO_ALIAS_SECURE, enforce);
-    learn_tlsa(&facts, TWEEDSTORK_TLSA_SECURE, usable, 2, first);
-    matters("record of two bytes", facts, 0);
-    facts = known(TWEEDSTORK_NO_ALIAS_SECURE, enforce);
-    learn_tlsa(&facts, TWEEDSTORK_TLSA_LOOKUP_FAILED, usable, 35, first);
-    matters("TLSA lookup failed", facts, 0);
-    facts = known(TWEEDSTORK_NO_ALIAS_SECURE, NULL);
-    learn_tlsa(&facts, TWEEDSTORK_TLSA_INSECURE, usable, 35, first);
-    matters("insecure record", facts, 0);
+    matters("usable record", known_with(TWEEDSTORK_NO_ALIAS_SECURE, NULL, TWEEDSTORK_TLSA_SECURE, usable, 35, first), 1);
+    matters("only an unusable record", known_with(TWEEDSTORK_NO_ALIAS_SECURE, NULL, TWEEDSTORK_TLSA_SECURE, unusable, 35, first), 0);
+    matters("unusable record, live policy", known_with(TWEEDSTORK_NO_ALIAS_SECURE, enforce, TWEEDSTORK_TLSA_SECURE, unusable, 35, first), 1);
+    matters("record of two bytes", known_with(TWEEDSTORK_NO_ALIAS_SECURE, enforce, TWEEDSTORK_TLSA_SECURE, usable, 2, first), 0);
+    matters("TLSA lookup failed", known_with(TWEEDSTORK_NO_ALIAS_SECURE, enforce, TWEEDSTORK_TLSA_LOOKUP_FAILED, usable, 35, first), 0);
+    matters("insecure record", known_with(TWEEDSTORK_NO_ALIAS_SECURE, NULL, TWEEDSTORK_TLSA_INSECURE, usable, 35, first), 0);
 
-    facts = known(TWEEDSTORK_ALIAS_SECURE, NULL);
-    learn_tlsa(&facts, TWEEDSTORK_TLSA_ABSENT, usable, 35, first);
+    facts = known_with(TWEEDSTORK_ALIAS_SECURE, NULL, TWEEDSTORK_TLSA_ABSENT, usable, 35, first);
     matters("the second of two TLSA answers not learnt yet", facts, 1);
     learn_tlsa(&facts, TWEEDSTORK_TLSA_SECURE, usable, 35, second);
     matters("usable record at the second name", facts, 1);
@@ -302,9 +298,7 @@ static void server_names(void)
     facts.tlsa[0].result = TWEEDSTORK_TLSA_ABSENT;
     learn_tlsa(&facts, TWEEDSTORK_TLSA_SECURE, usable, 35, second);
     serves("usable record at the host name", facts, "mail.example.com");
-    facts = known(TWEEDSTORK_NO_ALIAS_SECURE, NULL);
-    learn_tlsa(&facts, TWEEDSTORK_TLSA_SECURE, usable, 35, first);
-    serves("usable record, no alias", facts, "mail.example.com");
+    serves("usable record, no alias", known_with(TWEEDSTORK_NO_ALIAS_SECURE, NULL, TWEEDSTORK_TLSA_SECURE, usable, 35, first), "mail.example.com");
 }
 
 int main(void)

@@ -1,15 +1,14 @@
 -- What the rules reach is what document 01 says that they reach, in its order, each asked for by its number. So what demands 2 and 3 say of it doesn't rest on the tree alone. Assumes nothing.
 use Prim.Native.Nat.{ℕ}
-use mathlib.Core.Path.{_≡_, refl, sym, ap, _∙_}
+use mathlib.Core.Path.{_≡_, refl, ap}
 use mathlib.Core.Bool.{Bool, true, false, not, cond, _&&_, _||_}
 use mathlib.Core.List.{List, [], _∷_, _++_}
 use Rattle.lists.specs.Bytes.{any}
-use Rattle.lists.proofs.Bools.{by-cond}
 use Rattle.tlsa.specs.declared.Address.{Address}
 use Rattle.tlsa.specs.declared.Address.the-variants.{NoAliasSecure, NoAliasInsecure, AliasSecure, AliasFirstStepSecure, AliasFirstStepInsecure, Failed, NoAddress}
 use Rattle.tlsa.specs.Address.{TlsaName, expandedName, hostName, names, namesToTry}
-use Rattle.tlsa.specs.Record.{short, usable}
-use Rattle.tlsa.specs.Answer.{Answer, secure, secureRecords, readOf}
+use Rattle.tlsa.specs.Record.{usable}
+use Rattle.tlsa.specs.Answer.{Answer, secureRecords, readOf}
 use Rattle.certificates.specs.Facts.{Presented}
 use Rattle.hosts.specs.Facts.{Base, Handshake, Place, first, second, Fact, tlsa, starttls, handshake, certificates, Full}
 use Rattle.hosts.specs.Facts as F

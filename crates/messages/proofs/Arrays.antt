@@ -5,7 +5,6 @@ use mathlib.Core.Bool.{Bool, false, and-false}
 use mathlib.Core.List.{List, [], _∷_}
 use native.Mathlib.Numerals.{add-one}
 use native.Mathlib.Omega.{arith}
-use lib.Dec.{leb}
 use lib.ListN.{length, getD, take, set}
 use lib.Seq.{take-suc, take-suc-set, take-length}
 use borrow.Author.Needs.{needs}

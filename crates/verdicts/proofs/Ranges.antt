@@ -1,11 +1,10 @@
 -- A verdict is no question (10 to 14), no "not tried yet" (9), no delay (30, 31) and no refusal (40 and above). Assumes nothing.
 use Prim.Native.Nat.{ℕ, _<_, _≤_}
 use mathlib.Core.Path.{_≡_, refl}
-use mathlib.Core.Bool.{Bool, true, false, _||_}
+use mathlib.Core.Bool.{Bool, true, false}
 use native.Mathlib.Omega.{arith}
-use lib.Dec.{eqb, leb}
+use lib.Dec.{leb}
 use borrow.Author.Tests.{leb-true}
-use Rattle.lists.specs.Bytes.{within}
 use Rattle.lists.proofs.Bools.{and-left, and-right, or-elim}
 use Rattle.verdicts.specs.Verdicts.{isDelivery, isNextHost, isVerdict}
 
