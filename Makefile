@@ -28,11 +28,13 @@ all: archive
 toolchain:
 	@command -v $(RT) >/dev/null 2>&1 || { echo "make: the Rattle toolchain is missing: put its command 'rt' on the PATH (README.md, \"Two commands\")" >&2; exit 1; }
 
-# Proves what has changed since the last time and writes the archive; what the prover says is shown only where it refuses.
+# Proves what has changed since the last time and writes the archive. The first time takes minutes, so rt's line for each crate is
+# shown as it comes; what the prover says besides is in the log, which is shown whole where it refuses.
 archive: toolchain
 	@mkdir -p $(OUT)
-	@echo "proving the crates and building $(ARCHIVE)"
-	@$(RT) staticlib tweedstork >$(OUT)/archive.log 2>&1 || { cat $(OUT)/archive.log; exit 1; }
+	@echo "proving the crates and building $(ARCHIVE); the first time takes some minutes"
+	@set -o pipefail; $(RT) staticlib tweedstork 2>&1 | tee $(OUT)/archive.log | sed -u -n '/^rt: /{/(unchanged since/!p;}' || \
+	    { status=$$?; echo "make: the archive is not built; the whole log:" >&2; cat $(OUT)/archive.log; exit $$status; }
 
 # The example programs.
 examples: archive
