@@ -4,8 +4,10 @@
 #             and leaves the file as it was
 # make fuzz SECONDS=60
 #             fuzzes each call against the independent implementation
-# make install PREFIX=/usr/local
-#             header, archive, pkg-config file and man page
+# make install PREFIX=/usr/local LIBDIR=/usr/local/lib
+#             header, archive, pkg-config file and man pages; INCLUDEDIR, MANDIR and DESTDIR are known too
+# make uninstall PREFIX=/usr/local LIBDIR=/usr/local/lib
+#             removes what install put there
 # make clean  removes what the others made
 
 SHELL = /bin/bash
@@ -17,12 +19,16 @@ WARNINGS = -std=c99 -Wall -Wextra -Wpedantic -Werror
 SANITIZERS = -fsanitize=address,undefined -fno-sanitize-recover=all
 
 PREFIX ?= /usr/local
+LIBDIR ?= $(PREFIX)/lib
+INCLUDEDIR ?= $(PREFIX)/include
+MANDIR ?= $(PREFIX)/share/man
+export PREFIX LIBDIR INCLUDEDIR MANDIR
 SECONDS ?= 60
 
 ARCHIVE = target/staticlib/libtweedstork.a
 OUT = target/c
 
-.PHONY: all run test c-tests bench fuzz install clean toolchain archive examples
+.PHONY: all run test c-tests bench fuzz install uninstall clean toolchain archive examples
 all: archive
 
 toolchain:
@@ -64,7 +70,7 @@ c-tests: examples
 	@$(CC) $(CFLAGS) $(WARNINGS) $(SANITIZERS) -Iinclude tests/boundary.c $(ARCHIVE) -o $(OUT)/boundary
 	$(OUT)/boundary
 	tests/examples.sh $(OUT)
-	CC='$(CC)' tests/install.sh $(ARCHIVE)
+	CC='$(CC)' CXX='$(CXX)' tests/install.sh $(ARCHIVE)
 	tests/independent/run target/staticlib $(OUT)/independent
 
 bench: archive
@@ -74,8 +80,12 @@ bench: archive
 fuzz: archive
 	fuzz/run target/staticlib $(OUT)/fuzz $(SECONDS)
 
+# Both read in the environment where to.
 install: archive
-	@packaging/install $(ARCHIVE) '$(PREFIX)'
+	@packaging/install $(ARCHIVE)
+
+uninstall:
+	@packaging/install --remove
 
 clean:
 	rm -rf target

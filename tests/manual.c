@@ -1,0 +1,139 @@
+/*
+ * What the example of the man page calls: a server that offers one thing or another, and a connection that is lost at any of
+ * them. tests/install.sh takes the example out of the installed page and links it with this. Whatever happens, the example has
+ * to end, and to deliver with 1 to 5 alone.
+ */
+#include <stdio.h>
+#include <stdlib.h>
+#include <string.h>
+
+#include <tweedstork.h>
+
+void look_up_tlsa(uint64_t question, struct tweedstork_host_facts *facts);
+int ask_for_starttls(struct tweedstork_host_facts *facts);
+int shake_hands(struct tweedstork_host_facts *facts);
+int take_certificates(struct tweedstork_host_facts *facts);
+void deliver(uint64_t verdict);
+void go_on(uint64_t verdict);
+void leave_out(void);
+void try_host(const char *domain);
+
+static uint64_t tlsa, starttls, handshake; /* what the network answers */
+static uint64_t lost_at;                   /* the question at which the connection is lost; 0: at none */
+static int certificate_matches;
+static int learnt;                         /* how often the example asked */
+static char outcome[64];
+
+static int learns(uint64_t question)
+{
+    if (++learnt > 8) {
+        printf("manual: the example goes on and on at question %d\n", (int)question);
+        exit(1);
+    }
+    return question != lost_at;
+}
+
+/* One record 3 1 1, whose digest is 32 zeros. */
+void look_up_tlsa(uint64_t question, struct tweedstork_host_facts *facts)
+{
+    static const uint8_t record[35] = {3, 1, 1};
+    static uint8_t length[4];
+    struct tweedstork_tlsa_answer *answer = &facts->tlsa[facts->tlsa_answers++];
+
+    learns(question);
+    tweedstork_put_number(length, 0, sizeof record);
+    answer->result = tlsa;
+    answer->records.bytes = record;
+    answer->records.length = sizeof record;
+    answer->lengths.bytes = length;
+    answer->lengths.length = sizeof length;
+}
+
+int ask_for_starttls(struct tweedstork_host_facts *facts)
+{
+    facts->starttls = starttls;
+    return learns(TWEEDSTORK_ASK_STARTTLS);
+}
+
+int shake_hands(struct tweedstork_host_facts *facts)
+{
+    facts->handshake = handshake;
+    return learns(TWEEDSTORK_ASK_HANDSHAKE);
+}
+
+/* One certificate of two bytes, the second of which is its key info. */
+int take_certificates(struct tweedstork_host_facts *facts)
+{
+    static const uint8_t certificate[2];
+    static uint8_t length[4], key_place[8], digests[192], path[4];
+
+    memset(digests, certificate_matches ? 0 : 1, sizeof digests);
+    tweedstork_put_number(length, 0, sizeof certificate);
+    tweedstork_put_number(key_place, 0, 1);
+    tweedstork_put_number(key_place, 1, 1);
+    tweedstork_put_number(path, 0, TWEEDSTORK_YES);
+    facts->certificates_given = TWEEDSTORK_CERTIFICATES_GIVEN;
+    facts->certificates.bytes = certificate;
+    facts->certificates.length = sizeof certificate;
+    facts->certificate_lengths.bytes = length;
+    facts->certificate_lengths.length = sizeof length;
+    facts->key_places.bytes = key_place;
+    facts->key_places.length = sizeof key_place;
+    facts->digests.bytes = digests;
+    facts->digests.length = sizeof digests;
+    facts->paths.bytes = path;
+    facts->paths.length = sizeof path;
+    facts->trusted_root = TWEEDSTORK_NO;
+    facts->common_name_given = TWEEDSTORK_NO;
+    return learns(TWEEDSTORK_ASK_CERTIFICATES);
+}
+
+void deliver(uint64_t verdict)
+{
+    snprintf(outcome, sizeof outcome, "deliver %d", (int)verdict);
+}
+
+void go_on(uint64_t verdict)
+{
+    snprintf(outcome, sizeof outcome, "go on %d", (int)verdict);
+}
+
+void leave_out(void)
+{
+    snprintf(outcome, sizeof outcome, "leave out");
+}
+
+static int failures;
+
+static void expect(const char *wanted, const char *domain)
+{
+    learnt = 0;
+    outcome[0] = '\0';
+    try_host(domain);
+    if (strcmp(outcome, wanted) != 0) {
+        printf("manual: %s, lost at %d: expected '%s', got '%s'\n", domain, (int)lost_at, wanted, outcome);
+        failures++;
+    }
+}
+
+int main(void)
+{
+    tlsa = TWEEDSTORK_TLSA_SECURE;
+    starttls = TWEEDSTORK_STARTTLS_OFFERED;
+    handshake = TWEEDSTORK_ESTABLISHED;
+    certificate_matches = 1;
+    expect("deliver 3", "example.com");
+    certificate_matches = 0;
+    expect("go on 26", "example.com");
+    expect("leave out", "example..com");
+    for (lost_at = TWEEDSTORK_ASK_STARTTLS; lost_at <= TWEEDSTORK_ASK_CERTIFICATES; lost_at++)
+        expect("leave out", "example.com");
+    lost_at = 0;
+    tlsa = TWEEDSTORK_TLSA_LOOKUP_FAILED;
+    expect("go on 22", "example.com");
+    tlsa = TWEEDSTORK_TLSA_ABSENT;
+    expect("deliver 2", "example.com");
+    starttls = TWEEDSTORK_STARTTLS_NOT_OFFERED;
+    expect("deliver 1", "example.com");
+    return failures > 0;
+}
