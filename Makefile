@@ -3,7 +3,7 @@
 # make bench  measures against plain C and Rust, and writes docs/PERFORMANCE.md anew; where a promise on speed is broken it fails
 #             and leaves the file as it was
 # make fuzz SECONDS=60
-#             fuzzes each call against the independent implementation
+#             fuzzes each call against the independent implementation, for about that time in all
 # make install PREFIX=/usr/local LIBDIR=/usr/local/lib
 #             header, archive, pkg-config file and man pages; INCLUDEDIR, MANDIR and DESTDIR are known too
 # make uninstall PREFIX=/usr/local LIBDIR=/usr/local/lib
@@ -15,7 +15,8 @@ RT ?= rt
 CC ?= cc
 CXX ?= c++
 CFLAGS ?= -O2 -g
-WARNINGS = -std=c99 -Wall -Wextra -Wpedantic -Werror
+STRICT = -Wall -Wextra -Wpedantic -Werror
+WARNINGS = -std=c99 $(STRICT)
 SANITIZERS = -fsanitize=address,undefined -fno-sanitize-recover=all
 
 PREFIX ?= /usr/local
@@ -63,7 +64,8 @@ test: toolchain
 
 c-tests: examples
 	@echo '#include "tweedstork.h"' | $(CC) $(WARNINGS) -Iinclude -x c -fsyntax-only -
-	@echo '#include "tweedstork.h"' | $(CXX) -Wall -Wextra -Wpedantic -Werror -Iinclude -x c++ -fsyntax-only -
+	@for standard in c++11 c++20; do \
+	    echo '#include "tweedstork.h"' | $(CXX) -std=$$standard $(STRICT) -Iinclude -x c++ -fsyntax-only - || exit 1; done
 	tests/declarations.sh
 	@$(CC) $(CFLAGS) $(WARNINGS) $(SANITIZERS) -Iinclude tests/conveniences.c -o $(OUT)/conveniences
 	$(OUT)/conveniences
