@@ -1,0 +1,55 @@
+/*
+ * From an OpenSSL connection to the certificate facts that the library asks for. Made to be copied into a relay; it needs
+ * OpenSSL 3. What a relay does, with the facts that it has of the host, when the library answers
+ *
+ *   TWEEDSTORK_ASK_HANDSHAKE      handshake_prepare(ssl, &host), then SSL_connect(ssl)
+ *   TWEEDSTORK_ASK_CERTIFICATES   certificate_facts_read(ssl, roots, &host, &facts), then certificate_facts_give(&facts, &host)
+ */
+#ifndef OPENSSL_FACTS_H
+#define OPENSSL_FACTS_H
+
+#include <openssl/ssl.h>
+
+#include "tweedstork.h"
+
+/* The library's limits. */
+#define MOST_CERTIFICATES 8
+#define MOST_CERTIFICATE_BYTES 16384 /* of one */
+#define MOST_CHAIN_BYTES 65536       /* of all */
+#define MOST_DNS_IDS 64
+#define MOST_NAME_BYTES 255
+
+/* Room for the facts: over 80,000 bytes, which have to stay where they are as long as a host's facts point at them. */
+struct certificate_facts {
+    size_t count, length; /* how many certificates there are, and how many bytes they have in all */
+    uint8_t certificates[MOST_CHAIN_BYTES], lengths[4 * MOST_CERTIFICATES], key_places[8 * MOST_CERTIFICATES];
+    uint8_t digests[192 * MOST_CERTIFICATES], paths[4 * MOST_CERTIFICATES];
+    uint64_t trusted_root;
+    size_t dns_id_count, dns_ids_length;
+    uint8_t dns_ids[MOST_DNS_IDS * MOST_NAME_BYTES], dns_id_lengths[4 * MOST_DNS_IDS];
+    uint64_t common_name_given;
+    size_t common_name_length;
+    uint8_t common_name[MOST_NAME_BYTES];
+};
+
+/*
+ * Sets up a connection: the server name to send, the ciphers to offer, no checks during the handshake, no resumed session. Returns
+ * 0 where that fails. It is the relay's own failure and no failed handshake, on which the library may say to deliver in cleartext:
+ * the relay leaves the host out for now.
+ */
+int handshake_prepare(SSL *ssl, const struct tweedstork_host_facts *host);
+
+/*
+ * Reads the facts of a connection whose handshake is finished.
+ * roots: whom the relay trusts, made once by X509_STORE_new and X509_STORE_set_default_paths.
+ * host:  its three names are read: where a leaf has too many DNS-IDs, only those are given that can match one of them. So the facts
+ *        are for this host alone.
+ * Returns 0 where there are no facts: the session was resumed, memory is short, or the certificates can't be read or are outside
+ * the library's limits. The relay then leaves the host out, as after TWEEDSTORK_BAD_CERTIFICATES.
+ */
+int certificate_facts_read(SSL *ssl, X509_STORE *roots, const struct tweedstork_host_facts *host, struct certificate_facts *facts);
+
+/* Points the host's facts at these. */
+void certificate_facts_give(const struct certificate_facts *facts, struct tweedstork_host_facts *host);
+
+#endif
