@@ -71,6 +71,10 @@ c-tests: examples
 	$(OUT)/conveniences
 	@$(CC) $(CFLAGS) $(WARNINGS) $(SANITIZERS) -Iinclude tests/boundary.c $(ARCHIVE) -o $(OUT)/boundary
 	$(OUT)/boundary
+	@if pkg-config --exists 'openssl >= 3'; then echo $(OUT)/openssl; \
+	    $(CC) $(CFLAGS) $(WARNINGS) $(SANITIZERS) -Iinclude tests/openssl.c examples/openssl.c $(ARCHIVE) \
+	        $$(pkg-config --cflags --libs openssl) -o $(OUT)/openssl && $(OUT)/openssl; \
+	else echo "openssl: left out, since OpenSSL 3's headers are missing (Debian's package libssl-dev)"; fi
 	tests/examples.sh $(OUT)
 	CC='$(CC)' CXX='$(CXX)' tests/install.sh $(ARCHIVE)
 	tests/independent/run target/staticlib $(OUT)/independent
