@@ -67,6 +67,7 @@ c-tests: examples
 	@for standard in c++11 c++20; do \
 	    echo '#include "tweedstork.h"' | $(CXX) -std=$$standard $(STRICT) -Iinclude -x c++ -fsyntax-only - || exit 1; done
 	tests/declarations.sh
+	tests/documents.sh
 	@$(CC) $(CFLAGS) $(WARNINGS) $(SANITIZERS) -Iinclude tests/conveniences.c -o $(OUT)/conveniences
 	$(OUT)/conveniences
 	@$(CC) $(CFLAGS) $(WARNINGS) $(SANITIZERS) -Iinclude tests/boundary.c $(ARCHIVE) -o $(OUT)/boundary

@@ -23,9 +23,9 @@ static const struct promise {
     const char *rows, *reason;
 } promises[] = {
     {TABLES, NULL, 1.1, "every row but those below", "the aim is 1.0"},
-    {DNS_IDS, NULL, 1.5, "DNS-IDs", "until names are compared as document 02, No. 4 asks: lengths first, then byte pairs from the right"},
+    {DNS_IDS, NULL, 1.5, "DNS-IDs", "until names are compared by their lengths first and then by byte pairs from the right, which is planned"},
     {HOSTS, NULL, 1.5, "hosts of a message",
-     "document 01 names the form of that walk, arrays of 32 by value with a count: the library reads the lists into arrays and walks those, plain C walks the lists themselves"},
+     "the form of that walk is fixed, arrays of 32 by value with a count: the library reads the lists into arrays and walks those, plain C walks the lists themselves"},
     {DECISIONS, whole_certificate_decision, 1.5, "the decision with a whole certificate (record 3 0 0 of 1.5 KB)",
      "plain C calls the C library's `memcmp`, chosen by the processor, which compares 32 bytes an instruction; the archive calls nothing outside itself"},
 };

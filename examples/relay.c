@@ -111,7 +111,7 @@ static int says(const struct scenario_host *host, uint64_t question)
     case TWEEDSTORK_ASK_TLSA_HOST:
         return host->at_host.result != 0;
     case TWEEDSTORK_ASK_STARTTLS:
-        return host->starttls != 0;
+        return host->lost || host->starttls != 0;
     case TWEEDSTORK_ASK_HANDSHAKE:
         return host->handshake != 0;
     default:
@@ -119,7 +119,10 @@ static int says(const struct scenario_host *host, uint64_t question)
     }
 }
 
-/* A host's verdict or refusal: ask, learn, ask again. The library asks for each fact at most once, so this ends. */
+/*
+ * A host's verdict or refusal: ask, learn, ask again. The library asks for each fact at most once, so this ends. Zero, that nobody
+ * answered, where the connection is lost: that is no fact about STARTTLS, and a host without a verdict is left out.
+ */
 static uint64_t judge(const struct scenario *s, const struct scenario_host *host)
 {
     struct tweedstork_host_facts facts = first_facts(s, host);
@@ -132,6 +135,10 @@ static uint64_t judge(const struct scenario *s, const struct scenario_host *host
             fflush(stdout);
             fprintf(stderr, "relay: the scenario doesn't say it of %.*s\n", (int)host->name.length, (const char *)host->name.bytes);
             exit(2);
+        }
+        if (answer == TWEEDSTORK_ASK_STARTTLS && host->lost) {
+            printf("  network: the connection is lost\n");
+            return 0;
         }
     } while (learn(answer, host, &facts));
     return answer;
@@ -177,7 +184,7 @@ static int is_theirs(uint64_t refusal)
     return refusal == TWEEDSTORK_BAD_HOST || refusal == TWEEDSTORK_BAD_TLSA || refusal == TWEEDSTORK_BAD_CERTIFICATES;
 }
 
-/* Tries a host and notes what came of it. Returns the verdict or refusal. */
+/* Tries a host and notes what came of it. Returns the verdict or refusal, or zero where there is neither. */
 static uint64_t try_host(const struct scenario *s, struct hosts *hosts, size_t position)
 {
     const struct scenario_host *host = hosts->at[position];
@@ -185,7 +192,7 @@ static uint64_t try_host(const struct scenario *s, struct hosts *hosts, size_t p
 
     printf(": %.*s\n", (int)host->name.length, (const char *)host->name.bytes);
     answer = judge(s, host);
-    if (is_theirs(answer))
+    if (answer == 0 || is_theirs(answer))
         leave_out(hosts, position);
     else
         tweedstork_put_number(hosts->verdicts, position, (uint32_t)answer);

@@ -193,6 +193,10 @@ static int read_host_line(struct scenario_host *host, struct scenario_tlsa **tls
     }
     if (strcmp(keyword, "address") == 0)
         return choose(words[1], addresses, &host->address);
+    if (strcmp(keyword, "connection") == 0) {
+        host->lost = 1;
+        return strcmp(words[1], "lost") == 0;
+    }
     if (strcmp(keyword, "starttls") == 0)
         return choose(words[1], starttls_offers, &host->starttls);
     if (strcmp(keyword, "handshake") == 0)

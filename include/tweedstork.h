@@ -5,6 +5,9 @@
  * MTA-STS (RFC 8461) and SMTP-DANE (RFC 7672). Every call of the archive is proved to answer as its definition says, for
  * every input.
  *
+ * docs/RELAY.md says what the relay has to do: where each fact comes from, what it means, and what no call does for it.
+ * docs/RULES.md has the rules in plain words.
+ *
  * What the library does not do:
  * - it has no resolver, no HTTPS, no TLS, no path checking and no hashing: the relay brings their results, and the answers are
  *   as good as these;
@@ -12,13 +15,28 @@
  * - it does not read the MX answer: null MX and a domain that does not exist are the relay's (see tweedstork_next_host);
  * - it does not read certificates: the relay says where the key info stands and which names and digests there are.
  *
+ * Where it departs from the RFCs, or from what other mail servers do:
+ * - where DANE and MTA-STS are both needed, both must pass: a good record 3 1 1 beside an enforce policy and a self-signed
+ *   certificate is 27 (RFC 8461, 2 only forbids that a policy rescues a failing DANE check; Postfix lets DANE decide alone);
+ * - insecure MX records don't switch DANE off (RFC 7672, 2.2.1 leaves the choice);
+ * - a policy is stale at exactly max_age (RFC 8461, 5.1 keeps it while its age "has not exceeded" max_age);
+ * - a TLSA record under 3 bytes counts as a failed lookup (22), and not as an unusable record;
+ * - usage 2 never matches the leaf, self-signed or not (as long as the relay gives no path to a copy of it);
+ * - an underscore is no part of a name (60, 61), also in an expanded name that no rule reads;
+ * - the expanded next-hop is no reference yet (RFC 7672, 3.2.2), and a SHA-256 record still counts beside a SHA-512 one
+ *   (digest agility, RFC 7672, 5): both will be added;
+ * - a policy with an empty last line is malformed (51), as the RFC's grammar has it; some readers let it pass.
+ *
  * Conventions
  * - A number is a uint64_t. A byte slice is a pointer and a length; NULL with length 0 is an empty slice.
- * - A list of numbers is a byte slice, four bytes each, the highest first. Left-over bytes get the list's refusal.
- * - A name is ASCII text: labels of letters, digits and hyphens with single dots between, no dot at the end. Case doesn't
- *   matter; an international name is given as A-labels (xn--).
+ * - A list of numbers is a byte slice, four bytes each, big-endian (the highest first; tweedstork_put_number writes one).
+ *   Left-over bytes get the list's refusal.
+ * - A name is ASCII text of 1 to 253 bytes: labels of 1 to 63 letters, digits and hyphens with single dots between, no hyphen at
+ *   either end of a label, no dot at the end (cut off the one that resolvers print). Case doesn't matter; an international
+ *   name is given as A-labels (xn--).
  * - An answer is a struct; its first field is the answer number, one of enum tweedstork_number. It is never zero.
- * - A refusal (40 to 67) has zero in every other field, and leaves lent memory as it was, but for 42 (see there).
+ * - A refusal (40 to 67) has zero in every other field, and leaves the memory that you passed as it was, but for 42 (see
+ *   tweedstork_read_txt).
  * - No call keeps a pointer, allocates or has state. Calls may run on any number of threads at once.
  */
 #ifndef TWEEDSTORK_H
@@ -35,68 +53,72 @@ extern "C" {
 #define TWEEDSTORK_VERSION "1.0.0"
 #define TWEEDSTORK_VERSION_NUMBER 10000 /* major * 10000 + minor * 100 + patch */
 
-/* The version of the archive; it equals TWEEDSTORK_VERSION_NUMBER where header and archive belong together. */
+/* The version of the archive. It equals TWEEDSTORK_VERSION_NUMBER where header and archive belong together. */
 uint64_t tweedstork_version(void);
 
 /* The answer numbers. Zero is none of them: it means that nobody answered. */
 enum tweedstork_number {
     /* verdicts on a host: deliver */
-    TWEEDSTORK_CLEARTEXT = 1,               /* in cleartext; after a failed handshake over a new connection */
-    TWEEDSTORK_ENCRYPTED = 2,               /* encrypted, unauthenticated */
-    TWEEDSTORK_DANE = 3,                    /* authenticated by DANE */
-    TWEEDSTORK_MTA_STS = 4,                 /* authenticated by MTA-STS */
-    TWEEDSTORK_DANE_AND_MTA_STS = 5,        /* authenticated by both */
+    TWEEDSTORK_CLEARTEXT = 1,               /* deliver in cleartext (over a new connection where a handshake failed) */
+    TWEEDSTORK_ENCRYPTED = 2,               /* deliver encrypted, unauthenticated */
+    TWEEDSTORK_DANE = 3,                    /* deliver authenticated by DANE */
+    TWEEDSTORK_MTA_STS = 4,                 /* deliver authenticated by MTA-STS */
+    TWEEDSTORK_DANE_AND_MTA_STS = 5,        /* deliver authenticated by DANE and MTA-STS */
     /* readers */
     TWEEDSTORK_TXT_ACCEPTED = 6,            /* TXT record accepted */
     TWEEDSTORK_POLICY_ACCEPTED = 7,         /* policy accepted */
     /* a message's hosts */
     TWEEDSTORK_TRY_HOST = 8,                /* try this host */
-    TWEEDSTORK_NOT_TRIED = 9,               /* (input only) host not tried yet */
+    TWEEDSTORK_NOT_TRIED = 9,               /* host not tried yet (input only) */
     /* a host: what to learn next */
-    TWEEDSTORK_ASK_STARTTLS = 10,           /* ask: STARTTLS offered? */
-    TWEEDSTORK_ASK_HANDSHAKE = 11,          /* ask: handshake outcome */
-    TWEEDSTORK_ASK_CERTIFICATES = 12,       /* ask: certificate facts */
-    TWEEDSTORK_ASK_TLSA_EXPANDED = 13,      /* ask: TLSA at the expanded name: at _25._tcp.NAME in DNS */
-    TWEEDSTORK_ASK_TLSA_HOST = 14,          /* ask: TLSA at the host name, likewise */
+    TWEEDSTORK_ASK_STARTTLS = 10,           /* ask: is STARTTLS offered? */
+    TWEEDSTORK_ASK_HANDSHAKE = 11,          /* ask: was the handshake established? */
+    TWEEDSTORK_ASK_CERTIFICATES = 12,       /* ask: which certificates were shown? */
+    TWEEDSTORK_ASK_TLSA_EXPANDED = 13,      /* ask: which TLSA records are there at the expanded name (_25._tcp.NAME)? */
+    TWEEDSTORK_ASK_TLSA_HOST = 14,          /* ask: which TLSA records are there at the host name (_25._tcp.NAME)? */
     /* verdicts on a host: go on to the next host */
-    TWEEDSTORK_ADDRESS_FAILED = 20,         /* address lookup failed */
-    TWEEDSTORK_NO_ADDRESS = 21,             /* no address */
-    TWEEDSTORK_TLSA_FAILED = 22,            /* TLSA lookup failed */
-    TWEEDSTORK_NO_PATTERN = 23,             /* no policy pattern matches */
-    TWEEDSTORK_TLS_NOT_OFFERED = 24,        /* TLS needed, not offered */
-    TWEEDSTORK_HANDSHAKE_FAILED = 25,       /* TLS needed, handshake failed */
-    TWEEDSTORK_DANE_MISMATCH = 26,          /* DANE did not match */
-    TWEEDSTORK_MTA_STS_MISMATCH = 27,       /* MTA-STS certificate check did not pass */
+    TWEEDSTORK_ADDRESS_FAILED = 20,         /* next host: address lookup failed */
+    TWEEDSTORK_NO_ADDRESS = 21,             /* next host: no address */
+    TWEEDSTORK_TLSA_FAILED = 22,            /* next host: TLSA lookup failed, or a record has under 3 bytes */
+    TWEEDSTORK_NO_PATTERN = 23,             /* next host: no policy pattern matches */
+    TWEEDSTORK_TLS_NOT_OFFERED = 24,        /* next host: TLS needed, not offered */
+    TWEEDSTORK_HANDSHAKE_FAILED = 25,       /* next host: TLS needed, handshake failed */
+    TWEEDSTORK_DANE_MISMATCH = 26,          /* next host: DANE did not match */
+    TWEEDSTORK_MTA_STS_MISMATCH = 27,       /* next host: MTA-STS certificate check did not pass */
     /* a message's hosts: delay */
-    TWEEDSTORK_MX_LOOKUP_FAILED = 30,       /* MX lookup failed */
-    TWEEDSTORK_NO_HOST_LEFT = 31,           /* every host is a "next host" */
+    TWEEDSTORK_MX_LOOKUP_FAILED = 30,       /* delay: MX lookup failed */
+    TWEEDSTORK_NO_HOST_LEFT = 31,           /* delay: every host is a 'next host' */
     /* refusals */
-    TWEEDSTORK_TXT_NO_CANDIDATE = 40,       /* TXT: no record begins with "v=STSv1;" */
-    TWEEDSTORK_TXT_SEVERAL = 41,            /* TXT: several do */
-    TWEEDSTORK_TXT_MALFORMED = 42,          /* TXT: the one that does is malformed */
-    TWEEDSTORK_TXT_WIRE_FORM = 43,          /* TXT: wire form broken */
-    TWEEDSTORK_TXT_OUTPUT_SHORT = 44,       /* TXT: output too short */
-    TWEEDSTORK_POLICY_LONG = 50,            /* policy: over 65,536 bytes */
-    TWEEDSTORK_POLICY_MALFORMED = 51,       /* policy: malformed */
-    TWEEDSTORK_POLICY_INCOMPLETE = 52,      /* policy: required field missing */
-    TWEEDSTORK_BAD_NEXT_HOP = 60,           /* bad next-hop name */
-    TWEEDSTORK_BAD_HOST = 61,               /* bad host name, bad expanded name of an alias, or with no MX a
-                                               host that is not the next-hop */
-    TWEEDSTORK_BAD_CLOCK = 62,              /* a clock above 253,402,300,799 */
-    TWEEDSTORK_BAD_HOST_LIST = 63,          /* host list empty, over 32, lists of unequal length or with left-over bytes,
-                                               a preference over 65,535, or a number that is no host verdict */
-    TWEEDSTORK_BAD_TLSA = 64,               /* TLSA answer outside the limits */
-    TWEEDSTORK_BAD_CERTIFICATES = 65,       /* certificate facts outside the limits */
-    TWEEDSTORK_FACT_MISSING = 66,           /* a later fact given while an earlier needed one is missing */
-    TWEEDSTORK_BAD_CODE = 67                /* an input code or yes/no number (each of the paths too) outside its named choices,
-                                               or over two TLSA answers */
+    TWEEDSTORK_TXT_NO_CANDIDATE = 40,       /* refused: no TXT record begins with 'v=STSv1;' */
+    TWEEDSTORK_TXT_SEVERAL = 41,            /* refused: several TXT records begin with 'v=STSv1;' */
+    TWEEDSTORK_TXT_MALFORMED = 42,          /* refused: the TXT record that begins with 'v=STSv1;' is malformed */
+    TWEEDSTORK_TXT_WIRE_FORM = 43,          /* refused: TXT records whose lengths do not sum, an empty one, or a character
+                                               string that runs past its record */
+    TWEEDSTORK_TXT_OUTPUT_SHORT = 44,       /* refused: the output is too short for the TXT record */
+    TWEEDSTORK_POLICY_LONG = 50,            /* refused: the policy has over 65,536 bytes */
+    TWEEDSTORK_POLICY_MALFORMED = 51,       /* refused: the policy is malformed */
+    TWEEDSTORK_POLICY_INCOMPLETE = 52,      /* refused: the policy lacks version, mode, max_age or mx */
+    TWEEDSTORK_BAD_NEXT_HOP = 60,           /* refused: the next-hop is no name (perhaps a final dot) */
+    TWEEDSTORK_BAD_HOST = 61,               /* refused: the host or the expanded name of an alias is no name (perhaps a final
+                                               dot), or with no MX the host is not the next-hop */
+    TWEEDSTORK_BAD_CLOCK = 62,              /* refused: a clock above 253,402,300,799 */
+    TWEEDSTORK_BAD_HOST_LIST = 63,          /* refused: host list empty or over 32, lists of unequal length or with left-over
+                                               bytes, a preference over 65,535, or a number that is no host verdict */
+    TWEEDSTORK_BAD_TLSA = 64,               /* refused: TLSA answer with over 32 records, one of over 4,096 bytes, or lengths
+                                               that do not sum */
+    TWEEDSTORK_BAD_CERTIFICATES = 65,       /* refused: certificate facts with over 8 certificates or 64 DNS-IDs, one too long,
+                                               a list that is missing or too short, lengths that do not sum, or a key place
+                                               outside its certificate */
+    TWEEDSTORK_FACT_MISSING = 66,           /* refused: a later fact is given while an earlier needed one is missing */
+    TWEEDSTORK_BAD_CODE = 67                /* refused: a code or yes/no number (each of the paths too) outside its choices,
+                                               perhaps left zero, or over two TLSA answers */
 };
 
-/* A short sentence for an answer number; for any other number, that it is none. Never NULL. */
+/* An answer number in words: the sentence beside it above; for any other number, that it is none. Never NULL. */
 static inline const char *tweedstork_answer_words(uint64_t number)
 {
     switch (number) {
-    case TWEEDSTORK_CLEARTEXT: return "deliver in cleartext";
+    case TWEEDSTORK_CLEARTEXT: return "deliver in cleartext (over a new connection where a handshake failed)";
     case TWEEDSTORK_ENCRYPTED: return "deliver encrypted, unauthenticated";
     case TWEEDSTORK_DANE: return "deliver authenticated by DANE";
     case TWEEDSTORK_MTA_STS: return "deliver authenticated by MTA-STS";
@@ -104,43 +126,55 @@ static inline const char *tweedstork_answer_words(uint64_t number)
     case TWEEDSTORK_TXT_ACCEPTED: return "TXT record accepted";
     case TWEEDSTORK_POLICY_ACCEPTED: return "policy accepted";
     case TWEEDSTORK_TRY_HOST: return "try this host";
-    case TWEEDSTORK_NOT_TRIED: return "host not tried yet";
+    case TWEEDSTORK_NOT_TRIED: return "host not tried yet (input only)";
     case TWEEDSTORK_ASK_STARTTLS: return "ask: is STARTTLS offered?";
-    case TWEEDSTORK_ASK_HANDSHAKE: return "ask: how did the handshake end?";
+    case TWEEDSTORK_ASK_HANDSHAKE: return "ask: was the handshake established?";
     case TWEEDSTORK_ASK_CERTIFICATES: return "ask: which certificates were shown?";
-    case TWEEDSTORK_ASK_TLSA_EXPANDED: return "ask: which TLSA records are there at the expanded name?";
-    case TWEEDSTORK_ASK_TLSA_HOST: return "ask: which TLSA records are there at the host name?";
+    case TWEEDSTORK_ASK_TLSA_EXPANDED: return "ask: which TLSA records are there at the expanded name (_25._tcp.NAME)?";
+    case TWEEDSTORK_ASK_TLSA_HOST: return "ask: which TLSA records are there at the host name (_25._tcp.NAME)?";
     case TWEEDSTORK_ADDRESS_FAILED: return "next host: address lookup failed";
     case TWEEDSTORK_NO_ADDRESS: return "next host: no address";
-    case TWEEDSTORK_TLSA_FAILED: return "next host: TLSA lookup failed";
+    case TWEEDSTORK_TLSA_FAILED: return "next host: TLSA lookup failed, or a record has under 3 bytes";
     case TWEEDSTORK_NO_PATTERN: return "next host: no policy pattern matches";
     case TWEEDSTORK_TLS_NOT_OFFERED: return "next host: TLS needed, not offered";
     case TWEEDSTORK_HANDSHAKE_FAILED: return "next host: TLS needed, handshake failed";
     case TWEEDSTORK_DANE_MISMATCH: return "next host: DANE did not match";
     case TWEEDSTORK_MTA_STS_MISMATCH: return "next host: MTA-STS certificate check did not pass";
     case TWEEDSTORK_MX_LOOKUP_FAILED: return "delay: MX lookup failed";
-    case TWEEDSTORK_NO_HOST_LEFT: return "delay: every host is a \"next host\"";
-    case TWEEDSTORK_TXT_NO_CANDIDATE: return "refused: there is no MTA-STS record";
-    case TWEEDSTORK_TXT_SEVERAL: return "refused: there are several MTA-STS records";
-    case TWEEDSTORK_TXT_MALFORMED: return "refused: the MTA-STS record is malformed";
-    case TWEEDSTORK_TXT_WIRE_FORM: return "refused: the wire form of the TXT records is broken";
-    case TWEEDSTORK_TXT_OUTPUT_SHORT: return "refused: the output is too short for the record";
+    case TWEEDSTORK_NO_HOST_LEFT: return "delay: every host is a 'next host'";
+    case TWEEDSTORK_TXT_NO_CANDIDATE: return "refused: no TXT record begins with 'v=STSv1;'";
+    case TWEEDSTORK_TXT_SEVERAL: return "refused: several TXT records begin with 'v=STSv1;'";
+    case TWEEDSTORK_TXT_MALFORMED: return "refused: the TXT record that begins with 'v=STSv1;' is malformed";
+    case TWEEDSTORK_TXT_WIRE_FORM:
+        return "refused: TXT records whose lengths do not sum, an empty one, or a character string that runs past its "
+               "record";
+    case TWEEDSTORK_TXT_OUTPUT_SHORT: return "refused: the output is too short for the TXT record";
     case TWEEDSTORK_POLICY_LONG: return "refused: the policy has over 65,536 bytes";
     case TWEEDSTORK_POLICY_MALFORMED: return "refused: the policy is malformed";
-    case TWEEDSTORK_POLICY_INCOMPLETE: return "refused: the policy lacks a required field";
-    case TWEEDSTORK_BAD_NEXT_HOP: return "refused: bad next-hop name";
-    case TWEEDSTORK_BAD_HOST: return "refused: bad host name";
-    case TWEEDSTORK_BAD_CLOCK: return "refused: bad clock";
-    case TWEEDSTORK_BAD_HOST_LIST: return "refused: bad host list";
-    case TWEEDSTORK_BAD_TLSA: return "refused: TLSA answer outside the limits";
-    case TWEEDSTORK_BAD_CERTIFICATES: return "refused: certificate facts outside the limits";
+    case TWEEDSTORK_POLICY_INCOMPLETE: return "refused: the policy lacks version, mode, max_age or mx";
+    case TWEEDSTORK_BAD_NEXT_HOP: return "refused: the next-hop is no name (perhaps a final dot)";
+    case TWEEDSTORK_BAD_HOST:
+        return "refused: the host or the expanded name of an alias is no name (perhaps a final dot), "
+               "or with no MX the host is not the next-hop";
+    case TWEEDSTORK_BAD_CLOCK: return "refused: a clock above 253,402,300,799";
+    case TWEEDSTORK_BAD_HOST_LIST:
+        return "refused: host list empty or over 32, lists of unequal length or with left-over bytes, a preference over "
+               "65,535, or a number that is no host verdict";
+    case TWEEDSTORK_BAD_TLSA:
+        return "refused: TLSA answer with over 32 records, one of over 4,096 bytes, or lengths that do not sum";
+    case TWEEDSTORK_BAD_CERTIFICATES:
+        return "refused: certificate facts with over 8 certificates or 64 DNS-IDs, one too long, a list that is missing "
+               "or too short, lengths that do not sum, or a key place outside its certificate";
     case TWEEDSTORK_FACT_MISSING: return "refused: a later fact is given while an earlier needed one is missing";
-    case TWEEDSTORK_BAD_CODE: return "refused: an input code outside its choices, perhaps one left zero";
+    case TWEEDSTORK_BAD_CODE:
+        return "refused: a code or yes/no number (each of the paths too) outside its choices, perhaps left zero, or over "
+               "two TLSA answers";
     default: return "no answer number";
     }
 }
 
-/* Input codes. Zero is a choice only where it says "not given". */
+/* Input codes. Zero is a choice only where it says "not given". docs/RELAY.md says how a resolver's answers map to them. */
+
 enum { TWEEDSTORK_YES = 1, TWEEDSTORK_NO = 2 };
 
 enum tweedstork_origin {
@@ -149,13 +183,14 @@ enum tweedstork_origin {
     TWEEDSTORK_NO_MX = 3                    /* the domain exists and has no MX record: the host is the next-hop itself */
 };
 
+/* The result of the host's address lookup. The three alias codes all want the expanded name. */
 enum tweedstork_address {
     TWEEDSTORK_NO_ALIAS_SECURE = 1,
     TWEEDSTORK_NO_ALIAS_INSECURE = 2,
     TWEEDSTORK_ALIAS_SECURE = 3,            /* at every stage */
     TWEEDSTORK_ALIAS_FIRST_STEP_SECURE = 4, /* but the address is not */
     TWEEDSTORK_ALIAS_FIRST_STEP_INSECURE = 5,
-    TWEEDSTORK_ADDRESS_LOOKUP_FAILED = 6,
+    TWEEDSTORK_ADDRESS_LOOKUP_FAILED = 6,   /* bogus, SERVFAIL, a time-out: never "absent" */
     TWEEDSTORK_ADDRESS_ABSENT = 7
 };
 
@@ -165,10 +200,19 @@ enum tweedstork_tlsa_result {
     TWEEDSTORK_TLSA_SECURE = 1,             /* with the records listed, perhaps none */
     TWEEDSTORK_TLSA_INSECURE = 2,
     TWEEDSTORK_TLSA_ABSENT = 3,
-    TWEEDSTORK_TLSA_LOOKUP_FAILED = 4
+    TWEEDSTORK_TLSA_LOOKUP_FAILED = 4       /* bogus, SERVFAIL, a time-out: never "absent" */
 };
 
-enum tweedstork_starttls { TWEEDSTORK_STARTTLS_NOT_GIVEN = 0, TWEEDSTORK_STARTTLS_OFFERED = 1, TWEEDSTORK_STARTTLS_NOT_OFFERED = 2 };
+/*
+ * STARTTLS and handshake are of one connection. One that is lost before EHLO is answered has neither offered nor not offered it,
+ * and a failure of the relay's own (memory, its TLS set-up) is no failed handshake: the relay tries another address or leaves the
+ * host out. Otherwise it might be told to deliver in cleartext.
+ */
+enum tweedstork_starttls {
+    TWEEDSTORK_STARTTLS_NOT_GIVEN = 0,
+    TWEEDSTORK_STARTTLS_OFFERED = 1,
+    TWEEDSTORK_STARTTLS_NOT_OFFERED = 2
+};
 
 enum tweedstork_handshake { TWEEDSTORK_HANDSHAKE_NOT_GIVEN = 0, TWEEDSTORK_ESTABLISHED = 1, TWEEDSTORK_NOT_ESTABLISHED = 2 };
 
@@ -192,8 +236,10 @@ struct tweedstork_txt_answer {
  * Takes:   rdatas: the RDATAs in wire form, one after another. lengths: list of numbers, the length of each.
  *          output: memory that the record's text is written into; it must not overlap the other two.
  * Answers: TWEEDSTORK_TXT_ACCEPTED with the id as a part of the output: id_length bytes (1 to 32) from id_start on.
+ *
  *          Refusals, in this order: TWEEDSTORK_TXT_WIRE_FORM (the lengths don't sum to the bytes, an RDATA is empty, or a
- *          character string runs past its RDATA), _NO_CANDIDATE, _SEVERAL, _OUTPUT_SHORT, _MALFORMED.
+ *          character string runs past its RDATA), TWEEDSTORK_TXT_NO_CANDIDATE, TWEEDSTORK_TXT_SEVERAL,
+ *          TWEEDSTORK_TXT_OUTPUT_SHORT, TWEEDSTORK_TXT_MALFORMED.
  * Leaves:  with TWEEDSTORK_TXT_ACCEPTED and TWEEDSTORK_TXT_MALFORMED the record's text at the front of the output and the
  *          rest of it as it was; with every other answer the output as it was.
  */
@@ -220,7 +266,8 @@ struct tweedstork_policy_answer {
  *
  * Takes:   body: the policy as fetched.
  * Answers: TWEEDSTORK_POLICY_ACCEPTED with its mode (enum tweedstork_mode), its lifetime in seconds (max_age, at most
- *          31,557,600) and how many mx lines it has. Refusals, in this order: TWEEDSTORK_POLICY_LONG, _MALFORMED, _INCOMPLETE.
+ *          31,557,600) and how many mx lines it has. Refusals, in this order: TWEEDSTORK_POLICY_LONG,
+ *          TWEEDSTORK_POLICY_MALFORMED, TWEEDSTORK_POLICY_INCOMPLETE.
  * Leaves:  all memory as it was.
  */
 struct tweedstork_policy_answer tweedstork_read_policy(const uint8_t *body, size_t body_length);
@@ -234,39 +281,54 @@ struct tweedstork_host_answer {
  * May the relay deliver to this host, and how? Or what must it learn next?
  *
  * The relay calls with what it knows, learns the fact that the answer asks for, and calls again, until the answer is a verdict.
+ * tweedstork_judge_facts takes the same by name.
  *
  * Takes:   in every call: clock (seconds since 1970), next_hop (the name that the MX lookup was made for), origin of the host
- *          list, host (the name of the host to judge), address (result of its address lookup), expanded (the fully expanded
- *          host name, where the address is an alias), policy_given, policy (a body that tweedstork_read_policy accepted) and
- *          fetched (the clock of its fetch). A TXT record that is missing or refused, a fetch that fails, or a body that
- *          tweedstork_read_policy refuses never replaces an earlier policy that is still live: the relay goes on giving that
- *          one, with the clock of its own fetch, until it is stale (RFC 8461, 3.1, 3.3 and 5.1). TWEEDSTORK_NO_POLICY only
- *          where there is none.
+ *          list (enum tweedstork_origin), host (the name of the host to judge), address (result of its address lookup, enum
+ *          tweedstork_address), expanded (the fully expanded host name, wanted with each of the three alias results, 3, 4 and
+ *          5), policy_given (enum tweedstork_policy_given), policy (a body that tweedstork_read_policy accepted) and fetched
+ *          (the clock of its fetch; with a policy never left zero: that is a policy of 1970, stale, so that a stripped
+ *          STARTTLS is delivered in cleartext).
+ *
+ *          A TXT record that is missing or refused, a fetch that fails, or a body that tweedstork_read_policy refuses never
+ *          replaces an earlier policy that is still live: the relay goes on giving that one, with the clock of its own fetch,
+ *          until it is stale (RFC 8461, 3.1, 3.3 and 5.1). TWEEDSTORK_NO_POLICY only where there is none.
+ *
  *          Then, as far as learnt, in this order:
- *          tlsa_answers: how many TLSA answers are given, 0 to 2, in the order asked for; of each its result and, where that
- *          is TWEEDSTORK_TLSA_SECURE, its records: their RDATAs one after another, and a list of their lengths (up to 32
- *          records of up to 4,096 bytes).
- *          starttls; handshake;
- *          certificates_given, and then: the certificates one after another, leaf first, and a list of their lengths (up to 8
- *          of up to 16,384 bytes, 65,536 in all); key_places: list of numbers, two for each certificate, start and length of
- *          its public key info inside it; digests: for each certificate 192 bytes, SHA-256 and SHA-512 of the certificate,
- *          then of its key info; paths: list of numbers, for each certificate, the leaf too, TWEEDSTORK_YES or TWEEDSTORK_NO:
- *          does the path from the leaf to it verify?; trusted_root (yes/no): does the path end in a trusted root, unexpired?;
- *          dns_ids one after another with a list of their lengths (up to 64 of up to 255 bytes); common_name_given (yes/no)
- *          and the common name (up to 255 bytes).
+ *          - tlsa_answers: how many TLSA answers are given, 0 to 2, in the order asked for; of each its result (tlsa1_result,
+ *            tlsa2_result: enum tweedstork_tlsa_result) and, where that is TWEEDSTORK_TLSA_SECURE, its records: their RDATAs
+ *            one after another, and a list of their lengths (up to 32 records of up to 4,096 bytes);
+ *          - starttls (enum tweedstork_starttls);
+ *          - handshake (enum tweedstork_handshake);
+ *          - certificates_given (enum tweedstork_certificates_given), and then: the certificates as the server sent them,
+ *            one after another, leaf first, and a list of their lengths (up to 8 of up to 16,384 bytes, 65,536 in all);
+ *            key_places: list of numbers, two for each certificate, start and length of its SubjectPublicKeyInfo, with its
+ *            header, inside it; digests: for each certificate 192 bytes, SHA-256 and SHA-512 of the certificate, then of
+ *            that key info; paths: list of numbers, for each certificate TWEEDSTORK_YES or TWEEDSTORK_NO: does the path
+ *            from the leaf to it verify? (the leaf's own is read by no rule; a copy of the leaf further on gets no);
+ *            trusted_root (yes/no): does the path end in a trusted root, unexpired?; dns_ids one after another with a list
+ *            of their lengths (up to 64 of up to 255 bytes); common_name_given (yes/no) and the common name (up to 255
+ *            bytes). Where the server showed no certificate, they are given all the same: empty lists, and no, no.
+ *
  *          What isn't supplied is not looked at, whatever bytes stand there.
  * Answers: a verdict (1 to 5: deliver; 20 to 27: next host), exactly when every way in which the missing facts could turn
  *          out leads to it; otherwise the question (10 to 14) of the first fact that the rules reach and that is not given.
  *          tlsa_questions is how many of the given TLSA answers the rules read, 0 to 2.
- *          Refusals, in this order: TWEEDSTORK_BAD_CODE, _BAD_CLOCK, _BAD_NEXT_HOP, _BAD_HOST, the policy's (50 to 52),
- *          _BAD_TLSA, _BAD_CERTIFICATES, and last _FACT_MISSING. A refusal is never a permission to deliver.
- *          _BAD_HOST, _BAD_TLSA and _BAD_CERTIFICATES may come of what the domain or the server sent: the relay leaves this
- *          host out and goes on with the others. A server that shows over 8 certificates or over 64 DNS-IDs is refused, even
- *          where a TLSA record would match; certificate facts that were not asked for (12) are checked too.
- *          _BAD_NEXT_HOP may come of the recipient's address (user@my_shop.example): it holds for every host, and by these
- *          rules nobody may be given the message: the relay returns or delays it.
- *          50 to 52 cannot come where the relay gives only bodies that tweedstork_read_policy accepted. The other refusals
- *          are mistakes of the relay's own.
+ *
+ *          Refusals, in this order: TWEEDSTORK_BAD_CODE, TWEEDSTORK_BAD_CLOCK, TWEEDSTORK_BAD_NEXT_HOP, TWEEDSTORK_BAD_HOST,
+ *          the policy's (50 to 52), TWEEDSTORK_BAD_TLSA, TWEEDSTORK_BAD_CERTIFICATES, and last TWEEDSTORK_FACT_MISSING.
+ *          Everything supplied is checked, also what wasn't asked for. A refusal is never a permission to deliver.
+ *          - 61, 64 and 65 may come of what the domain or the server sent: the relay leaves this host out and goes on with the
+ *            others. They may also come of the relay's own mistake. It is the relay's where a name ends in a dot, expanded is
+ *            empty under an alias result, lengths don't sum to the bytes beside them, or a list doesn't have its four
+ *            (key_places eight, digests 192) bytes for each record or certificate.
+ *          - A server that shows over 8 certificates or over 64 DNS-IDs is refused (65), even where a TLSA record would match.
+ *            Safely left out are certificates after the leaf whose path doesn't verify, with their key place, digests and
+ *            path; and DNS-IDs that can match none of host, expanded name and next-hop, as long as one DNS-ID stays.
+ *          - 60 may come of the recipient's address (user@my_shop.example): it holds for every host, and by these rules nobody
+ *            may be given the message: the relay returns or delays it.
+ *          - 50 to 52 cannot come where the relay gives only bodies that tweedstork_read_policy accepted.
+ *          - 62, 66 and 67 are mistakes of the relay's own.
  * Leaves:  all memory as it was.
  */
 struct tweedstork_host_answer tweedstork_judge_host(
@@ -322,9 +384,11 @@ struct tweedstork_message_answer {
  *          position. Positions count from 0 in the lists as given. TWEEDSTORK_NO_HOST_LEFT where every host is a "next
  *          host", TWEEDSTORK_MX_LOOKUP_FAILED where the lookup failed (the lists are then not looked at); position 0 then.
  *          Before the relay returns a message that a policy held back it has to look for a newer policy (RFC 8461, 5.1).
+ *
  *          Refusals: TWEEDSTORK_BAD_CODE, then TWEEDSTORK_BAD_HOST_LIST.
- *          A host that was refused, that could not be connected to, or that did not take the message after all, is the
- *          relay's to leave out of both lists; with none left the relay delays by itself.
+ *
+ *          A host that was refused, that could not be connected to, whose connection was lost before its verdict, or that did
+ *          not take the message after all, is the relay's to leave out of both lists; with none left the relay delays by itself.
  * Leaves:  all memory as it was.
  */
 struct tweedstork_message_answer tweedstork_next_host(
@@ -336,7 +400,7 @@ struct tweedstork_message_answer tweedstork_next_host(
  * Conveniences, in C and so not proved; tests/conveniences.c tests them.
  */
 
-/* Writes a number at its place in a list of numbers: four bytes, the highest first. */
+/* Writes a number at its place, counted from 0, in a list of numbers: four bytes, big-endian (the highest first). */
 static inline void tweedstork_put_number(uint8_t *list, size_t place, uint32_t number)
 {
     list[4 * place] = (uint8_t)(number >> 24);
@@ -357,7 +421,8 @@ struct tweedstork_tlsa_answer {
 
 /*
  * The arguments of tweedstork_judge_host by name. A fact that isn't learnt yet is left zero. Never zero are origin, address and
- * policy_given; nor, once certificates are given, trusted_root and common_name_given.
+ * policy_given (67); nor, once certificates are given, trusted_root and common_name_given (67). With a policy fetched isn't zero
+ * either: no call can refuse that, and it makes the policy stale.
  */
 struct tweedstork_host_facts {
     uint64_t clock;
@@ -365,10 +430,10 @@ struct tweedstork_host_facts {
     uint64_t origin;                        /* enum tweedstork_origin */
     struct tweedstork_slice host;
     uint64_t address;                       /* enum tweedstork_address */
-    struct tweedstork_slice expanded;
+    struct tweedstork_slice expanded;       /* with each of the three alias results */
     uint64_t policy_given;                  /* enum tweedstork_policy_given */
     struct tweedstork_slice policy;
-    uint64_t fetched;
+    uint64_t fetched;                       /* the clock of the policy's fetch: with a policy never left zero */
     uint64_t tlsa_answers;
     struct tweedstork_tlsa_answer tlsa[2];
     uint64_t starttls;                      /* enum tweedstork_starttls */
@@ -381,7 +446,7 @@ struct tweedstork_host_facts {
     struct tweedstork_slice common_name;
 };
 
-/* tweedstork_judge_host on these facts. */
+/* May the relay deliver to this host, and how? tweedstork_judge_host on these facts. */
 static inline struct tweedstork_host_answer tweedstork_judge_facts(const struct tweedstork_host_facts *facts)
 {
     return tweedstork_judge_host(
@@ -417,8 +482,8 @@ static inline struct tweedstork_host_answer tweedstork_judge_facts(const struct 
 }
 
 /*
- * Before the handshake: may the verdict still hang on the certificates that the server will show? With 0 the relay may offer
- * anonymous ciphers (RFC 7672, 8.2) and need not keep the certificates; with 1 it offers none, since a server that has a
+ * May the verdict still hang on the certificates that the server will show? Asked before the handshake. With 0 the relay may
+ * offer anonymous ciphers (RFC 7672, 8.2) and need not keep the certificates; with 1 it offers none, since a server that has a
  * certificate may still choose such a cipher, and then shows none (26 or 27).
  *
  * 1 where tweedstork_judge_host would ask for certificate facts (12) were the handshake established; and where a TLSA answer is
@@ -438,9 +503,10 @@ static inline int tweedstork_certificates_matter(const struct tweedstork_host_fa
 }
 
 /*
- * The name to send in the handshake (SNI), once every TLSA answer asked for is learnt. Where DANE will be checked it is the TLSA
- * base domain (RFC 7672, 8.1): the expanded name where the records stand there, else the host. A policy that applies besides
- * doesn't change that (RFC 8461, 2). Otherwise, also where none of the records is usable, it is the host (RFC 8461, 7.1).
+ * The name to send in the handshake (SNI). Asked once every TLSA answer is learnt that the library asked for. Where DANE will be
+ * checked it is the TLSA base domain (RFC 7672, 8.1): the expanded name where the records stand there, else the host. A policy
+ * that applies besides doesn't change that (RFC 8461, 2). Otherwise, also where none of the records is usable, it is the host
+ * (RFC 8461, 7.1). The slice is one of the two that were given, with no zero byte behind it.
  */
 static inline struct tweedstork_slice tweedstork_server_name(const struct tweedstork_host_facts *facts)
 {

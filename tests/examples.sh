@@ -45,6 +45,7 @@ scenario wrong-certificate '8 10 11 12 27 8 23 31'
 scenario wrong-key '8 13 10 11 12 26 31'
 scenario cleartext '8 10 1 1'
 scenario mx-failed '30'
+scenario connection-lost '8 10 8 10 11 2 2'
 if [ "$scenarios" -ne "$(ls examples/scenarios | wc -l)" ]; then
     echo "examples/scenarios has a file that isn't tested"
     failed=1
@@ -62,6 +63,9 @@ expect 'relay: sends the message to mail.example.com, over the TLS connection wh
 printf 'clock 1\nnext-hop example..com\nmx secure\nhost 10 mail.example.com\naddress secure\n' >"$files/hop"
 expect 'relay: returns the message, since its next-hop is no name' relay "$files/hop"
 answers "$files/hop" '8 60'
+expect 'relay: sends the message to backup.example.com, over TLS, whoever the server is' relay examples/scenarios/connection-lost.txt
+printf 'clock 1\nnext-hop example.com\nmx insecure\nhost 10 mail.example.com\naddress insecure\nconnection lost\n' >"$files/lost"
+expect 'relay: keeps the message and tries again later' relay "$files/lost"
 printf 'clock 1\nnext-hop example.com\nmx insecure\nhost 10 mail.example.com\naddress insecure\n' >"$files/silent"
 expect "relay: the scenario doesn't say it of mail.example.com" relay "$files/silent"
 
@@ -69,14 +73,14 @@ expect "relay: the scenario doesn't say it of mail.example.com" relay "$files/si
 domain=examples/domain
 expect 'policy: answer 7: mode enforce, for 604800 seconds, with 3 mx patterns' discover $domain/records.txt $domain/policy.txt
 printf 'v=STSv1; id=1\nv=STSv1; id=2\n' >"$files/two"
-expect 'records: answer 41: refused: there are several MTA-STS records' discover "$files/two" $domain/policy.txt
+expect "records: answer 41: refused: several TXT records begin with 'v=STSv1;'" discover "$files/two" $domain/policy.txt
 printf 'v=STSv1; id=%0300d;\n' 1 >"$files/long"
-expect 'records: answer 42: refused: the MTA-STS record is malformed' discover "$files/long" $domain/policy.txt
+expect "records: answer 42: refused: the TXT record that begins with 'v=STSv1;' is malformed" discover "$files/long" $domain/policy.txt
 : >"$files/none"
-expect 'records: answer 40: refused: there is no MTA-STS record' discover "$files/none" $domain/policy.txt
+expect "records: answer 40: refused: no TXT record begins with 'v=STSv1;'" discover "$files/none" $domain/policy.txt
 expect 'policy: answer 51: refused: the policy is malformed' discover $domain/records.txt "$files/none"
 printf 'version: STSv1\nmode: none\n' >"$files/short"
-expect 'policy: answer 52: refused: the policy lacks a required field' discover $domain/records.txt "$files/short"
+expect 'policy: answer 52: refused: the policy lacks version, mode, max_age or mx' discover $domain/records.txt "$files/short"
 expect "discover: cannot read $files/missing (at most 100000 bytes)" discover $domain/records.txt "$files/missing"
 
 [ "$failed" -eq 0 ] && echo "examples: as expected"
