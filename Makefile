@@ -5,7 +5,8 @@
 # make fuzz SECONDS=60
 #             fuzzes each call against the independent implementation, for about that time in all
 # make install PREFIX=/usr/local LIBDIR=/usr/local/lib
-#             header, archive, pkg-config file and man pages; INCLUDEDIR, MANDIR and DESTDIR are known too
+#             header, archive, pkg-config file, man pages, documents and examples; INCLUDEDIR, MANDIR, DOCDIR and DESTDIR are
+#             known too. An archive that is newer than its sources is installed as it is, without the toolchain
 # make uninstall PREFIX=/usr/local LIBDIR=/usr/local/lib
 #             removes what install put there
 # make clean  removes what the others made
@@ -23,7 +24,8 @@ PREFIX ?= /usr/local
 LIBDIR ?= $(PREFIX)/lib
 INCLUDEDIR ?= $(PREFIX)/include
 MANDIR ?= $(PREFIX)/share/man
-export PREFIX LIBDIR INCLUDEDIR MANDIR
+DOCDIR ?= $(PREFIX)/share/doc/tweedstork
+export PREFIX LIBDIR INCLUDEDIR MANDIR DOCDIR
 SECONDS ?= 60
 
 ARCHIVE = target/staticlib/libtweedstork.a
@@ -39,8 +41,8 @@ toolchain:
 # shown as it comes; what the prover says besides is in the log, which is shown whole where it refuses.
 archive: toolchain
 	@mkdir -p $(OUT)
-	@echo "proving the crates and building $(ARCHIVE); the first time takes some minutes"
-	@set -o pipefail; $(RT) staticlib tweedstork 2>&1 | tee $(OUT)/archive.log | sed -u -n '/^rt: /{/(unchanged since/!p;}' || \
+	@echo "proving the crates and building $(ARCHIVE)$$([ -e $(ARCHIVE) ] || echo '; the first time takes some minutes')"
+	@set -o pipefail; $(RT) staticlib tweedstork 2>&1 | tee $(OUT)/archive.log | sed -u -n '/^rt: [a-z]* proved/{/(unchanged since/!p;}' || \
 	    { status=$$?; echo "make: the archive is not built; the whole log:" >&2; cat $(OUT)/archive.log; exit $$status; }
 
 # The example programs.
@@ -88,7 +90,9 @@ fuzz: archive
 	fuzz/run target/staticlib $(OUT)/fuzz $(SECONDS)
 
 # Both read in the environment where to.
-install: archive
+install:
+	@[ -e $(ARCHIVE) ] && [ -z "$$(find crates crates.txt include -newer $(ARCHIVE) -print -quit)" ] || \
+	    $(MAKE) --no-print-directory archive
 	@packaging/install $(ARCHIVE)
 
 uninstall:

@@ -1,9 +1,12 @@
 /*
- * From an OpenSSL connection to the certificate facts that the library asks for. Made to be copied into a relay; it needs
- * OpenSSL 3. What a relay does, with the facts that it has of the host, when the library answers
+ * From an OpenSSL connection to the certificate facts that the library asks for. Made to be copied into a relay; it is C, and
+ * needs OpenSSL 3: cc -c openssl.c $(pkg-config --cflags tweedstork openssl). What a relay does, with the facts that it has of the
+ * host, when the library answers
  *
- *   TWEEDSTORK_ASK_HANDSHAKE      handshake_prepare(ssl, &host), then SSL_connect(ssl)
- *   TWEEDSTORK_ASK_CERTIFICATES   certificate_facts_read(ssl, roots, &host, &facts), then certificate_facts_give(&facts, &host)
+ *   TWEEDSTORK_ASK_HANDSHAKE      if (!handshake_prepare(ssl, &host)) leave the host out;
+ *                                 host.handshake = SSL_connect(ssl) == 1 ? TWEEDSTORK_ESTABLISHED : TWEEDSTORK_NOT_ESTABLISHED;
+ *   TWEEDSTORK_ASK_CERTIFICATES   if (!certificate_facts_read(ssl, roots, &host, &facts)) leave the host out;
+ *                                 certificate_facts_give(&facts, &host);
  */
 #ifndef OPENSSL_FACTS_H
 #define OPENSSL_FACTS_H
@@ -33,19 +36,20 @@ struct certificate_facts {
 };
 
 /*
- * Sets up a connection: the server name to send, the ciphers to offer, no checks during the handshake, no resumed session. Returns
- * 0 where that fails. It is the relay's own failure and no failed handshake, on which the library may say to deliver in cleartext:
+ * Sets up a connection: the server name to send, the ciphers to offer, no checks of certificates during the handshake, no resumed
+ * session; and where certificates don't matter, old TLS too. Returns 0 where that fails. It is the relay's own failure and no failed handshake, on which the library may say to deliver in cleartext:
  * the relay leaves the host out for now.
  */
 int handshake_prepare(SSL *ssl, const struct tweedstork_host_facts *host);
 
 /*
  * Reads the facts of a connection whose handshake is finished.
- * roots: whom the relay trusts, made once by X509_STORE_new and X509_STORE_set_default_paths.
+ * roots: whom the relay trusts, made once by X509_STORE_new and X509_STORE_set_default_paths (which succeeds with no roots there
+ *        too: see at start-up that a certificate that should verify does).
  * host:  its three names are read: where a leaf has too many DNS-IDs, only those are given that can match one of them. So the facts
  *        are for this host alone.
- * Returns 0 where there are no facts: the session was resumed, memory is short, or the certificates can't be read or are outside
- * the library's limits. The relay then leaves the host out, as after TWEEDSTORK_BAD_CERTIFICATES.
+ * Returns 0 where there are no facts: the session was resumed, memory is short, or certificates that may matter can't be read or are
+ * outside the library's limits. The relay then leaves the host out, as after TWEEDSTORK_BAD_CERTIFICATES.
  */
 int certificate_facts_read(SSL *ssl, X509_STORE *roots, const struct tweedstork_host_facts *host, struct certificate_facts *facts);
 

@@ -1,7 +1,8 @@
 /*
  * A relay's whole way with a message. It asks which host to try, then what to do with that host; what the library asks for it
  * learns from the network, and asks again, until the library has a verdict. Instead of a network there is a scenario, a text
- * file of what the network would answer (examples/scenarios).
+ * file of what the network would answer (examples/scenarios). A host has one address here; docs/RELAY.md says what to do with
+ * several, and with failures of the relay's own.
  *
  * Usage: relay SCENARIO ...
  */
@@ -120,18 +121,20 @@ static int says(const struct scenario_host *host, uint64_t question)
 }
 
 /*
- * A host's verdict or refusal: ask, learn, ask again. The library asks for each fact at most once, so this ends. Zero, that nobody
- * answered, where the connection is lost: that is no fact about STARTTLS, and a host without a verdict is left out.
+ * A host's verdict or refusal: ask, learn, ask again. The library asks for no fact that it has, so this ends; a question that came
+ * twice would mean that the relay left its fact zero. Zero, that nobody answered, where the connection is lost: that is no fact
+ * about STARTTLS, and a host without a verdict is left out.
  */
 static uint64_t judge(const struct scenario *s, const struct scenario_host *host)
 {
     struct tweedstork_host_facts facts = first_facts(s, host);
-    uint64_t answer;
+    uint64_t answer = 0, before;
 
     do {
+        before = answer;
         answer = tweedstork_judge_facts(&facts).number;
         printf("  library %" PRIu64 ": %s\n", answer, tweedstork_answer_words(answer));
-        if (!says(host, answer)) {
+        if (answer == before || !says(host, answer)) {
             fflush(stdout);
             fprintf(stderr, "relay: the scenario doesn't say it of %.*s\n", (int)host->name.length, (const char *)host->name.bytes);
             exit(2);
@@ -220,14 +223,18 @@ static int deliver(const struct scenario *s)
             printf("relay: returns the message, since its next-hop is no name\n");
             return 1;
         }
-        if (tried > TWEEDSTORK_MTA_STS_MISMATCH && !is_theirs(tried))
+        if (tried > TWEEDSTORK_MTA_STS_MISMATCH && !is_theirs(tried)) {
+            printf("relay: keeps the message, since it made a mistake of its own\n");
             return 0;
+        }
     } while (answer.number == TWEEDSTORK_TRY_HOST && hosts.count > 0);
     if (answer.number != TWEEDSTORK_TRY_HOST)
         printf("\n");
-    if (answer.number > TWEEDSTORK_NO_HOST_LEFT)
+    if (answer.number > TWEEDSTORK_NO_HOST_LEFT) {
+        printf("relay: keeps the message, since it made a mistake of its own\n");
         return 0;
-    if (way(answer.number) != NULL)
+    }
+    if (way(answer.number) != NULL) /* on the connection that was judged, still open; after a failed handshake on a new one */
         printf("relay: sends the message to %.*s, %s\n", (int)hosts.at[answer.position]->name.length,
                (const char *)hosts.at[answer.position]->name.bytes, way(answer.number));
     else

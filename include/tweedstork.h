@@ -18,7 +18,8 @@
  * Where it departs from the RFCs, or from what other mail servers do:
  * - where DANE and MTA-STS are both needed, both must pass: a good record 3 1 1 beside an enforce policy and a self-signed
  *   certificate is 27 (RFC 8461, 2 only forbids that a policy rescues a failing DANE check; Postfix lets DANE decide alone);
- * - insecure MX records don't switch DANE off (RFC 7672, 2.2.1 leaves the choice);
+ * - insecure MX records don't switch DANE off (RFC 7672, 2.2.1 leaves the choice); 3 then proves the host, not that it is the
+ *   domain's;
  * - a policy is stale at exactly max_age (RFC 8461, 5.1 keeps it while its age "has not exceeded" max_age);
  * - a TLSA record under 3 bytes counts as a failed lookup (22), and not as an unusable record;
  * - usage 2 never matches the leaf, self-signed or not (as long as the relay gives no path to a copy of it);
@@ -28,7 +29,8 @@
  * - a policy with an empty last line is malformed (51), as the RFC's grammar has it; some readers let it pass.
  *
  * Conventions
- * - A number is a uint64_t. A byte slice is a pointer and a length; NULL with length 0 is an empty slice.
+ * - A number is a uint64_t. A byte slice is a pointer and a length; NULL with length 0 is an empty slice. Every length is in
+ *   bytes, also that of a list: four times its count.
  * - A list of numbers is a byte slice, four bytes each, big-endian (the highest first; tweedstork_put_number writes one).
  *   Left-over bytes get the list's refusal.
  * - A name is ASCII text of 1 to 253 bytes: labels of 1 to 63 letters, digits and hyphens with single dots between, no hyphen at
@@ -74,8 +76,10 @@ enum tweedstork_number {
     TWEEDSTORK_ASK_STARTTLS = 10,           /* ask: is STARTTLS offered? */
     TWEEDSTORK_ASK_HANDSHAKE = 11,          /* ask: was the handshake established? */
     TWEEDSTORK_ASK_CERTIFICATES = 12,       /* ask: which certificates were shown? */
-    TWEEDSTORK_ASK_TLSA_EXPANDED = 13,      /* ask: which TLSA records are there at the expanded name (_25._tcp.NAME)? */
-    TWEEDSTORK_ASK_TLSA_HOST = 14,          /* ask: which TLSA records are there at the host name (_25._tcp.NAME)? */
+    TWEEDSTORK_ASK_TLSA_EXPANDED = 13,      /* ask: which TLSA records are there at the expanded name (for port 25 at
+                                               _25._tcp.NAME)? */
+    TWEEDSTORK_ASK_TLSA_HOST = 14,          /* ask: which TLSA records are there at the host name (for port 25 at
+                                               _25._tcp.NAME)? */
     /* verdicts on a host: go on to the next host */
     TWEEDSTORK_ADDRESS_FAILED = 20,         /* next host: address lookup failed */
     TWEEDSTORK_NO_ADDRESS = 21,             /* next host: no address */
@@ -92,29 +96,33 @@ enum tweedstork_number {
     TWEEDSTORK_TXT_NO_CANDIDATE = 40,       /* refused: no TXT record begins with 'v=STSv1;' */
     TWEEDSTORK_TXT_SEVERAL = 41,            /* refused: several TXT records begin with 'v=STSv1;' */
     TWEEDSTORK_TXT_MALFORMED = 42,          /* refused: the TXT record that begins with 'v=STSv1;' is malformed */
-    TWEEDSTORK_TXT_WIRE_FORM = 43,          /* refused: TXT records whose lengths do not sum, an empty one, or a character
-                                               string that runs past its record */
+    TWEEDSTORK_TXT_WIRE_FORM = 43,          /* refused: TXT records whose lengths (four bytes each, big-endian) do not sum, an
+                                               empty one, or a character string that runs past its record */
     TWEEDSTORK_TXT_OUTPUT_SHORT = 44,       /* refused: the output is too short for the TXT record */
     TWEEDSTORK_POLICY_LONG = 50,            /* refused: the policy has over 65,536 bytes */
-    TWEEDSTORK_POLICY_MALFORMED = 51,       /* refused: the policy is malformed */
+    TWEEDSTORK_POLICY_MALFORMED = 51,       /* refused: the policy is malformed (perhaps it is empty, or has a zero byte or an
+                                               empty line) */
     TWEEDSTORK_POLICY_INCOMPLETE = 52,      /* refused: the policy lacks version, mode, max_age or mx */
-    TWEEDSTORK_BAD_NEXT_HOP = 60,           /* refused: the next-hop is no name (perhaps a final dot) */
-    TWEEDSTORK_BAD_HOST = 61,               /* refused: the host or the expanded name of an alias is no name (perhaps a final
-                                               dot), or with no MX the host is not the next-hop */
+    TWEEDSTORK_BAD_NEXT_HOP = 60,           /* refused: the next-hop is no name (perhaps it is empty, or has a final dot, a
+                                               zero byte or an underscore) */
+    TWEEDSTORK_BAD_HOST = 61,               /* refused: the host or the expanded name of an alias is no name (perhaps it is
+                                               empty, or has a final dot, a zero byte or an underscore), or with no MX the host
+                                               is not the next-hop */
     TWEEDSTORK_BAD_CLOCK = 62,              /* refused: a clock above 253,402,300,799 */
     TWEEDSTORK_BAD_HOST_LIST = 63,          /* refused: host list empty or over 32, lists of unequal length or with left-over
-                                               bytes, a preference over 65,535, or a number that is no host verdict */
+                                               bytes, a preference over 65,535, or a number (four bytes, big-endian) that is no
+                                               host verdict */
     TWEEDSTORK_BAD_TLSA = 64,               /* refused: TLSA answer with over 32 records, one of over 4,096 bytes, or lengths
-                                               that do not sum */
+                                               (four bytes each, big-endian) that do not sum */
     TWEEDSTORK_BAD_CERTIFICATES = 65,       /* refused: certificate facts with over 8 certificates or 64 DNS-IDs, one too long,
-                                               a list that is missing or too short, lengths that do not sum, or a key place
-                                               outside its certificate */
+                                               a list that is missing or of the wrong length, lengths (four bytes each,
+                                               big-endian) that do not sum, or a key place outside its certificate */
     TWEEDSTORK_FACT_MISSING = 66,           /* refused: a later fact is given while an earlier needed one is missing */
     TWEEDSTORK_BAD_CODE = 67                /* refused: a code or yes/no number (each of the paths too) outside its choices,
                                                perhaps left zero, or over two TLSA answers */
 };
 
-/* An answer number in words: the sentence beside it above; for any other number, that it is none. Never NULL. */
+/* An answer number in words: its sentence in enum tweedstork_number; for any other number, that it is none. Never NULL. */
 static inline const char *tweedstork_answer_words(uint64_t number)
 {
     switch (number) {
@@ -130,8 +138,9 @@ static inline const char *tweedstork_answer_words(uint64_t number)
     case TWEEDSTORK_ASK_STARTTLS: return "ask: is STARTTLS offered?";
     case TWEEDSTORK_ASK_HANDSHAKE: return "ask: was the handshake established?";
     case TWEEDSTORK_ASK_CERTIFICATES: return "ask: which certificates were shown?";
-    case TWEEDSTORK_ASK_TLSA_EXPANDED: return "ask: which TLSA records are there at the expanded name (_25._tcp.NAME)?";
-    case TWEEDSTORK_ASK_TLSA_HOST: return "ask: which TLSA records are there at the host name (_25._tcp.NAME)?";
+    case TWEEDSTORK_ASK_TLSA_EXPANDED:
+        return "ask: which TLSA records are there at the expanded name (for port 25 at _25._tcp.NAME)?";
+    case TWEEDSTORK_ASK_TLSA_HOST: return "ask: which TLSA records are there at the host name (for port 25 at _25._tcp.NAME)?";
     case TWEEDSTORK_ADDRESS_FAILED: return "next host: address lookup failed";
     case TWEEDSTORK_NO_ADDRESS: return "next host: no address";
     case TWEEDSTORK_TLSA_FAILED: return "next host: TLSA lookup failed, or a record has under 3 bytes";
@@ -146,30 +155,34 @@ static inline const char *tweedstork_answer_words(uint64_t number)
     case TWEEDSTORK_TXT_SEVERAL: return "refused: several TXT records begin with 'v=STSv1;'";
     case TWEEDSTORK_TXT_MALFORMED: return "refused: the TXT record that begins with 'v=STSv1;' is malformed";
     case TWEEDSTORK_TXT_WIRE_FORM:
-        return "refused: TXT records whose lengths do not sum, an empty one, or a character string that runs past its "
-               "record";
+        return "refused: TXT records whose lengths (four bytes each, big-endian) do not sum, an empty one, or a character "
+               "string that runs past its record";
     case TWEEDSTORK_TXT_OUTPUT_SHORT: return "refused: the output is too short for the TXT record";
     case TWEEDSTORK_POLICY_LONG: return "refused: the policy has over 65,536 bytes";
-    case TWEEDSTORK_POLICY_MALFORMED: return "refused: the policy is malformed";
+    case TWEEDSTORK_POLICY_MALFORMED:
+        return "refused: the policy is malformed (perhaps it is empty, or has a zero byte or an empty line)";
     case TWEEDSTORK_POLICY_INCOMPLETE: return "refused: the policy lacks version, mode, max_age or mx";
-    case TWEEDSTORK_BAD_NEXT_HOP: return "refused: the next-hop is no name (perhaps a final dot)";
+    case TWEEDSTORK_BAD_NEXT_HOP:
+        return "refused: the next-hop is no name (perhaps it is empty, or has a final dot, a zero byte or an underscore)";
     case TWEEDSTORK_BAD_HOST:
-        return "refused: the host or the expanded name of an alias is no name (perhaps a final dot), "
-               "or with no MX the host is not the next-hop";
+        return "refused: the host or the expanded name of an alias is no name (perhaps it is empty, or has a final dot, a "
+               "zero byte or an underscore), or with no MX the host is not the next-hop";
     case TWEEDSTORK_BAD_CLOCK: return "refused: a clock above 253,402,300,799";
     case TWEEDSTORK_BAD_HOST_LIST:
         return "refused: host list empty or over 32, lists of unequal length or with left-over bytes, a preference over "
-               "65,535, or a number that is no host verdict";
+               "65,535, or a number (four bytes, big-endian) that is no host verdict";
     case TWEEDSTORK_BAD_TLSA:
-        return "refused: TLSA answer with over 32 records, one of over 4,096 bytes, or lengths that do not sum";
+        return "refused: TLSA answer with over 32 records, one of over 4,096 bytes, or lengths (four bytes each, "
+               "big-endian) that do not sum";
     case TWEEDSTORK_BAD_CERTIFICATES:
         return "refused: certificate facts with over 8 certificates or 64 DNS-IDs, one too long, a list that is missing "
-               "or too short, lengths that do not sum, or a key place outside its certificate";
+               "or of the wrong length, lengths (four bytes each, big-endian) that do not sum, or a key place outside its "
+               "certificate";
     case TWEEDSTORK_FACT_MISSING: return "refused: a later fact is given while an earlier needed one is missing";
     case TWEEDSTORK_BAD_CODE:
         return "refused: a code or yes/no number (each of the paths too) outside its choices, perhaps left zero, or over "
                "two TLSA answers";
-    default: return "no answer number";
+    default: return "no answer number; zero is none, and means that nobody answered";
     }
 }
 
@@ -197,7 +210,7 @@ enum tweedstork_address {
 enum tweedstork_policy_given { TWEEDSTORK_POLICY = 1, TWEEDSTORK_NO_POLICY = 2 };
 
 enum tweedstork_tlsa_result {
-    TWEEDSTORK_TLSA_SECURE = 1,             /* with the records listed, perhaps none */
+    TWEEDSTORK_TLSA_SECURE = 1,             /* with all its records listed; with none it is the same as absent */
     TWEEDSTORK_TLSA_INSECURE = 2,
     TWEEDSTORK_TLSA_ABSENT = 3,
     TWEEDSTORK_TLSA_LOOKUP_FAILED = 4       /* bogus, SERVFAIL, a time-out: never "absent" */
@@ -234,7 +247,8 @@ struct tweedstork_txt_answer {
  * Which MTA-STS record do the TXT RDATAs of _mta-sts.DOMAIN hold (RFC 8461, 3.1)?
  *
  * Takes:   rdatas: the RDATAs in wire form, one after another. lengths: list of numbers, the length of each.
- *          output: memory that the record's text is written into; it must not overlap the other two.
+ *          output: memory that the record's text is written into; it must not overlap the other two. rdatas_length bytes are
+ *          always enough.
  * Answers: TWEEDSTORK_TXT_ACCEPTED with the id as a part of the output: id_length bytes (1 to 32) from id_start on.
  *
  *          Refusals, in this order: TWEEDSTORK_TXT_WIRE_FORM (the lengths don't sum to the bytes, an RDATA is empty, or a
@@ -300,28 +314,32 @@ struct tweedstork_host_answer {
  *            one after another, and a list of their lengths (up to 32 records of up to 4,096 bytes);
  *          - starttls (enum tweedstork_starttls);
  *          - handshake (enum tweedstork_handshake);
- *          - certificates_given (enum tweedstork_certificates_given), and then: the certificates as the server sent them,
- *            one after another, leaf first, and a list of their lengths (up to 8 of up to 16,384 bytes, 65,536 in all);
- *            key_places: list of numbers, two for each certificate, start and length of its SubjectPublicKeyInfo, with its
- *            header, inside it; digests: for each certificate 192 bytes, SHA-256 and SHA-512 of the certificate, then of
- *            that key info; paths: list of numbers, for each certificate TWEEDSTORK_YES or TWEEDSTORK_NO: does the path
- *            from the leaf to it verify? (the leaf's own is read by no rule; a copy of the leaf further on gets no);
- *            trusted_root (yes/no): does the path end in a trusted root, unexpired?; dns_ids one after another with a list
- *            of their lengths (up to 64 of up to 255 bytes); common_name_given (yes/no) and the common name (up to 255
- *            bytes). Where the server showed no certificate, they are given all the same: empty lists, and no, no.
+ *          - certificates_given (enum tweedstork_certificates_given), and then the rest. Where the server showed no
+ *            certificate, it is given all the same: empty lists, and no, no:
+ *          - certificates: as the server sent them, one after another, leaf first; certificate_lengths: list of their
+ *            lengths (up to 8 of up to 16,384 bytes, 65,536 in all);
+ *          - key_places: list of numbers, two for each certificate, start and length of its SubjectPublicKeyInfo, with its
+ *            header, inside it;
+ *          - digests: for each certificate 192 bytes, SHA-256 and SHA-512 of the certificate, then of that key info;
+ *          - paths: list of numbers, for each certificate TWEEDSTORK_YES or TWEEDSTORK_NO: does the path from the leaf to
+ *            it verify? The leaf's own is read by no rule; a copy of the leaf further on gets no;
+ *          - trusted_root (yes/no): does the path end in a trusted root, unexpired?
+ *          - dns_ids: one after another; dns_id_lengths: list of their lengths (up to 64 of up to 255 bytes);
+ *          - common_name_given (yes/no); common_name (up to 255 bytes).
  *
  *          What isn't supplied is not looked at, whatever bytes stand there.
  * Answers: a verdict (1 to 5: deliver; 20 to 27: next host), exactly when every way in which the missing facts could turn
  *          out leads to it; otherwise the question (10 to 14) of the first fact that the rules reach and that is not given.
- *          tlsa_questions is how many of the given TLSA answers the rules read, 0 to 2.
+ *          tlsa_questions is how many of the given TLSA answers the rules read, 0 to 2 (for logs: no decision needs it).
  *
  *          Refusals, in this order: TWEEDSTORK_BAD_CODE, TWEEDSTORK_BAD_CLOCK, TWEEDSTORK_BAD_NEXT_HOP, TWEEDSTORK_BAD_HOST,
  *          the policy's (50 to 52), TWEEDSTORK_BAD_TLSA, TWEEDSTORK_BAD_CERTIFICATES, and last TWEEDSTORK_FACT_MISSING.
  *          Everything supplied is checked, also what wasn't asked for. A refusal is never a permission to deliver.
  *          - 61, 64 and 65 may come of what the domain or the server sent: the relay leaves this host out and goes on with the
- *            others. They may also come of the relay's own mistake. It is the relay's where a name ends in a dot, expanded is
- *            empty under an alias result, lengths don't sum to the bytes beside them, or a list doesn't have its four
- *            (key_places eight, digests 192) bytes for each record or certificate.
+ *            others. They may also come of the relay's own mistake. It is the relay's where a name ends in a dot or isn't given
+ *            as A-labels, expanded is empty under an alias result, the host of a domain with no MX isn't the next-hop, lengths
+ *            don't sum to the bytes beside them, or a list doesn't have its four (key_places eight, digests 192) bytes for
+ *            each record or certificate.
  *          - A server that shows over 8 certificates or over 64 DNS-IDs is refused (65), even where a TLSA record would match.
  *            Safely left out are certificates after the leaf whose path doesn't verify, with their key place, digests and
  *            path; and DNS-IDs that can match none of host, expanded name and next-hop, as long as one DNS-ID stays.
@@ -373,8 +391,9 @@ struct tweedstork_message_answer {
  * Before:  the relay reads the answer of the MX lookup. It returns the message, with no call of this or of
  *          tweedstork_judge_host, where the domain does not exist (NXDOMAIN; RFC 5321, 5.1), and where it takes no mail (null
  *          MX: one MX record, with preference 0 and the root as its host; RFC 7505, 3). A domain that exists and has no MX
- *          record has one host, the next-hop itself, with preference 0 (TWEEDSTORK_NO_MX). An address literal
- *          (user@[192.0.2.1]) is no name; neither MTA-STS nor DANE speaks of it (RFC 8461, 3.4; RFC 7672, 2.2).
+ *          record has one host, the next-hop itself, with preference 0 (TWEEDSTORK_NO_MX). It makes no call for an address
+ *          literal (user@[192.0.2.1]): neither MTA-STS nor DANE speaks of it (RFC 8461, 3.4; RFC 7672, 2.2), and without its
+ *          brackets it would pass as a name.
  * Takes:   mx_lookup: TWEEDSTORK_MX_ANSWERED or TWEEDSTORK_MX_FAILED.
  *          preferences: list of numbers, 1 to 32 of them, each 0 to 65,535, a host each. Of more hosts the relay gives the 32
  *          that come first by preference.
@@ -383,7 +402,8 @@ struct tweedstork_message_answer {
  *          decides: one not tried yet gives TWEEDSTORK_TRY_HOST and its position, a verdict 1 to 5 is handed on with its
  *          position. Positions count from 0 in the lists as given. TWEEDSTORK_NO_HOST_LEFT where every host is a "next
  *          host", TWEEDSTORK_MX_LOOKUP_FAILED where the lookup failed (the lists are then not looked at); position 0 then.
- *          Before the relay returns a message that a policy held back it has to look for a newer policy (RFC 8461, 5.1).
+ *          1 to 5 only repeats the list: the permission is tweedstork_judge_host's, for the connection that it was asked of.
+ *          Before the relay returns a message that a policy held back it has to look for a newer policy (RFC 8461, 5 and 5.1).
  *
  *          Refusals: TWEEDSTORK_BAD_CODE, then TWEEDSTORK_BAD_HOST_LIST.
  *
@@ -420,9 +440,14 @@ struct tweedstork_tlsa_answer {
 };
 
 /*
- * The arguments of tweedstork_judge_host by name. A fact that isn't learnt yet is left zero. Never zero are origin, address and
- * policy_given (67); nor, once certificates are given, trusted_root and common_name_given (67). With a policy fetched isn't zero
- * either: no call can refuse that, and it makes the policy stale.
+ * The arguments of tweedstork_judge_host by name. A new struct for each host, all zero: TLSA answers left over from another host
+ * would count as this one's. A fact that isn't learnt yet stays zero; zero is never "no", so a question that comes twice running
+ * means that its fact was left zero. Never zero are origin, address and policy_given (67); nor, once certificates are given,
+ * trusted_root and common_name_given (67).
+ *
+ * No call can refuse these: with a policy fetched is never zero (the policy would be stale), a secure TLSA answer has all its
+ * records (without them it is the same as absent), and clock is never zero (every policy would stay live). The first two can end
+ * in delivery in cleartext.
  */
 struct tweedstork_host_facts {
     uint64_t clock;
@@ -446,7 +471,10 @@ struct tweedstork_host_facts {
     struct tweedstork_slice common_name;
 };
 
-/* May the relay deliver to this host, and how? tweedstork_judge_host on these facts. */
+/*
+ * May the relay deliver to this host, and how? Or what must it learn next? This is tweedstork_judge_host on these facts: there
+ * stands what each fact is, what is answered, and what to do with a refusal.
+ */
 static inline struct tweedstork_host_answer tweedstork_judge_facts(const struct tweedstork_host_facts *facts)
 {
     return tweedstork_judge_host(
@@ -505,8 +533,9 @@ static inline int tweedstork_certificates_matter(const struct tweedstork_host_fa
 /*
  * The name to send in the handshake (SNI). Asked once every TLSA answer is learnt that the library asked for. Where DANE will be
  * checked it is the TLSA base domain (RFC 7672, 8.1): the expanded name where the records stand there, else the host. A policy
- * that applies besides doesn't change that (RFC 8461, 2). Otherwise, also where none of the records is usable, it is the host
- * (RFC 8461, 7.1). The slice is one of the two that were given, with no zero byte behind it.
+ * that applies besides doesn't change that: it is not to interfere with DANE (RFC 8461, 2), though RFC 8461, 7.1 names the host
+ * alone. Otherwise, also where none of the records is usable, it is the host. The slice is one of the two that were given, with
+ * no zero byte behind it.
  */
 static inline struct tweedstork_slice tweedstork_server_name(const struct tweedstork_host_facts *facts)
 {

@@ -475,7 +475,7 @@ function put_types(own,   said, all, count, i, t, is_named, more, begun) {
 
 function write_page(own,   said, i, others) {
     page = own ".3"
-    put(".TH " toupper(own) " 3 \"\" \"tweedstork " version "\" Tweedstork")
+    put(".TH " toupper(own) " 3 \"\" \"tweedstork " version "\" \"Library calls\"")
     put(".nh") # no name is to be broken
     put(".ad l")
     put(".SH NAME")

@@ -2,6 +2,7 @@
 # The example programs, run on inputs of document 01 and RFC 8461: what they print last is the answer that the papers give.
 # Usage: examples.sh FOLDER, where the programs are
 set -euo pipefail
+[ $# -eq 1 ] || { echo "usage: $0 FOLDER, where the programs are" >&2; exit 2; }
 cd "$(dirname "$0")/.."
 programs=$1
 files=$(mktemp -d)
@@ -66,6 +67,8 @@ answers "$files/hop" '8 60'
 expect 'relay: sends the message to backup.example.com, over TLS, whoever the server is' relay examples/scenarios/connection-lost.txt
 printf 'clock 1\nnext-hop example.com\nmx insecure\nhost 10 mail.example.com\naddress insecure\nconnection lost\n' >"$files/lost"
 expect 'relay: keeps the message and tries again later' relay "$files/lost"
+printf 'clock 253402300800\nnext-hop example.com\nmx insecure\nhost 10 mail.example.com\naddress insecure\n' >"$files/clock"
+expect 'relay: keeps the message, since it made a mistake of its own' relay "$files/clock"
 printf 'clock 1\nnext-hop example.com\nmx insecure\nhost 10 mail.example.com\naddress insecure\n' >"$files/silent"
 expect "relay: the scenario doesn't say it of mail.example.com" relay "$files/silent"
 
@@ -78,7 +81,7 @@ printf 'v=STSv1; id=%0300d;\n' 1 >"$files/long"
 expect "records: answer 42: refused: the TXT record that begins with 'v=STSv1;' is malformed" discover "$files/long" $domain/policy.txt
 : >"$files/none"
 expect "records: answer 40: refused: no TXT record begins with 'v=STSv1;'" discover "$files/none" $domain/policy.txt
-expect 'policy: answer 51: refused: the policy is malformed' discover $domain/records.txt "$files/none"
+expect 'policy: answer 51: refused: the policy is malformed (perhaps it is empty, or has a zero byte or an empty line)' discover $domain/records.txt "$files/none"
 printf 'version: STSv1\nmode: none\n' >"$files/short"
 expect 'policy: answer 52: refused: the policy lacks version, mode, max_age or mx' discover $domain/records.txt "$files/short"
 expect "discover: cannot read $files/missing (at most 100000 bytes)" discover $domain/records.txt "$files/missing"

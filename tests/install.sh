@@ -8,14 +8,15 @@ cd "$(dirname "$0")/.."
 archive=$1
 files=$(mktemp -d)
 trap 'rm -rf "$files"' EXIT
-unset PREFIX LIBDIR INCLUDEDIR MANDIR DESTDIR MAKEFLAGS MFLAGS
+unset PREFIX LIBDIR INCLUDEDIR MANDIR DOCDIR DESTDIR MAKEFLAGS MFLAGS
 export LC_ALL=C
 warnings=(-Wall -Wextra -Wpedantic -Werror)
 
 fail() { echo "install: $*"; exit 1; }
 
-# The archive is there and is not made anew.
-run_make() { make -s -o archive ARCHIVE="$archive" "$@" >"$files/log" 2>&1; }
+# The archive is there and is not made anew: a copy of it is newer than its sources.
+cp "$archive" "$files/archive.a"
+run_make() { make -s RT=false ARCHIVE="$files/archive.a" "$@" >"$files/log" 2>&1; }
 must_make() { run_make "$@" || { cat "$files/log"; fail "make $* fails"; }; }
 
 # Those that the archive exports, and those that are C in the header.
@@ -28,6 +29,8 @@ functions() {
 ours() { # PREFIX LIBDIR
     printf '%s\n' "$1/include/tweedstork.h" "$2/libtweedstork.a" "$2/pkgconfig/tweedstork.pc" "$1/share/man/man3/tweedstork.3"
     functions | sed "s|.*|$1/share/man/man3/&.3|"
+    printf "$1/share/doc/tweedstork/%s\n" docs/{RULES,RELAY,CLAIMS,DECISIONS}.md examples/{discover,openssl,relay,scenario}.c \
+        examples/{openssl,scenario}.h
 }
 
 # Standard input says which files the folder has to have.
@@ -117,6 +120,7 @@ check_layout
 run_readme
 run_example
 must_make uninstall PREFIX="$prefix" LIBDIR="$libdir"
+grep -qx "removed $(ours a b | wc -l) files of tweedstork from $prefix" "$files/log" || fail "make uninstall says $(cat "$files/log")"
 printf '%s\n' "${theirs[@]}" | has_exactly "$root" "make uninstall: wrong files are left"
 
 # A packager's: the pkg-config file doesn't know of DESTDIR.
@@ -127,6 +131,9 @@ flags=$(PKG_CONFIG_PATH=$files/stage/opt/ours/lib/pkgconfig pkg-config --cflags 
 must_make uninstall DESTDIR="$files/stage" PREFIX=/opt/ours
 has_exactly "$files/stage" "make uninstall with DESTDIR: wrong files are left" </dev/null
 
+touch -d 2000-01-01 "$files/archive.a"
+if run_make install PREFIX="$files/stale" || [ -e "$files/stale" ]; then fail "make install takes an archive that is older than its sources"; fi
+touch "$files/archive.a"
 for place in PREFIX= PREFIX=here LIBDIR=lib; do
     if run_make install DESTDIR="$files/refused" "$place" || [ -e "$files/refused" ]; then fail "make install takes $place"; fi
 done

@@ -20,7 +20,7 @@ void try_host(const char *domain);
 
 static uint64_t tlsa, starttls, handshake; /* what the network answers */
 static uint64_t lost_at;                   /* the question at which the connection is lost; 0: at none */
-static int certificate_matches;
+static int certificate_matches, forgetful; /* forgetful: the answer about STARTTLS is lost on its way into the facts */
 static int learnt;                         /* how often the example asked */
 static char outcome[64];
 
@@ -51,7 +51,7 @@ void look_up_tlsa(uint64_t question, struct tweedstork_host_facts *facts)
 
 int ask_for_starttls(struct tweedstork_host_facts *facts)
 {
-    facts->starttls = starttls;
+    facts->starttls = forgetful ? 0 : starttls;
     return learns(TWEEDSTORK_ASK_STARTTLS);
 }
 
@@ -135,5 +135,7 @@ int main(void)
     expect("deliver 2", "example.com");
     starttls = TWEEDSTORK_STARTTLS_NOT_OFFERED;
     expect("deliver 1", "example.com");
+    forgetful = 1;
+    expect("leave out", "example.com");
     return failures > 0;
 }
