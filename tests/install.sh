@@ -42,7 +42,7 @@ check_files() {
     if grep -rn '@[A-Z]*@' "$mans" "$libdir/pkgconfig"; then fail "a place that was to be filled in"; fi
     cmp "$archive" "$libdir/libtweedstork.a" || fail "another archive than the one that was to be installed"
     cmp include/tweedstork.h "$prefix/include/tweedstork.h" || fail "another header than the one that was to be installed"
-    [ -z "$(find "$root" -type f ! -perm 644)" ] || fail "a file that not everybody may read"
+    [ -z "$(find "$there" -type f ! -perm 644)" ] || fail "a file that not everybody may read"
 }
 
 # The prototypes of a page's synopsis, without blanks.
@@ -106,12 +106,12 @@ run_example() {
 }
 
 # Paths with blanks, and a folder of its own for the archive. Others have files there, one with a name like ours.
-root=$files/root prefix=$files/root/a\ prefix libdir=$files/root/a\ libdir mans=$files/root/a\ prefix/share/man/man3
+there=$files/there prefix=$files/there/a\ prefix libdir=$files/there/a\ libdir mans=$files/there/a\ prefix/share/man/man3
 theirs=("a prefix/include/other.h" "a prefix/share/man/man3/tweedstork_other.3" "a libdir/libother.a" "a libdir/pkgconfig/other.pc")
-for file in "${theirs[@]}"; do install -D -m 644 /dev/null "$root/$file"; done
+for file in "${theirs[@]}"; do install -D -m 644 /dev/null "$there/$file"; done
 must_make install PREFIX="$prefix" LIBDIR="$libdir"
 must_make install PREFIX="$prefix" LIBDIR="$libdir" # once more over the first
-{ ours 'a prefix' 'a libdir'; printf '%s\n' "${theirs[@]}"; } | has_exactly "$root" "make install with LIBDIR: wrong files"
+{ ours 'a prefix' 'a libdir'; printf '%s\n' "${theirs[@]}"; } | has_exactly "$there" "make install with LIBDIR: wrong files"
 flags=$(PKG_CONFIG_PATH=$libdir/pkgconfig pkg-config --cflags --libs tweedstork)
 eval "flags=($flags)" # pkg-config writes the blanks as a shell reads them
 check_files
@@ -121,7 +121,7 @@ run_readme
 run_example
 must_make uninstall PREFIX="$prefix" LIBDIR="$libdir"
 grep -qx "removed $(ours a b | wc -l) files of tweedstork from $prefix" "$files/log" || fail "make uninstall says $(cat "$files/log")"
-printf '%s\n' "${theirs[@]}" | has_exactly "$root" "make uninstall: wrong files are left"
+printf '%s\n' "${theirs[@]}" | has_exactly "$there" "make uninstall: wrong files are left"
 
 # A packager's: the pkg-config file doesn't know of DESTDIR.
 must_make install DESTDIR="$files/stage" PREFIX=/opt/ours
