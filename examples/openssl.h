@@ -7,6 +7,10 @@
  *                                 host.handshake = SSL_connect(ssl) == 1 ? TWEEDSTORK_ESTABLISHED : TWEEDSTORK_NOT_ESTABLISHED;
  *   TWEEDSTORK_ASK_CERTIFICATES   if (!certificate_facts_read(ssl, roots, &host, &facts)) leave the host out;
  *                                 certificate_facts_give(&facts, &host);
+ *
+ * The socket is a blocking one with a time-out. With another, go on while SSL_get_error says SSL_ERROR_WANT_READ or
+ * SSL_ERROR_WANT_WRITE: that is no outcome. Where the error is the relay's own (ERR_R_MALLOC_FAILURE, SSL_R_NO_CIPHERS_AVAILABLE,
+ * SSL_R_NO_PROTOCOLS_AVAILABLE), leave the host out.
  */
 #ifndef OPENSSL_FACTS_H
 #define OPENSSL_FACTS_H
@@ -37,8 +41,8 @@ struct certificate_facts {
 
 /*
  * Sets up a connection: the server name to send, the ciphers to offer, no checks of certificates during the handshake, no resumed
- * session; and where certificates don't matter, old TLS too. Returns 0 where that fails. It is the relay's own failure and no failed handshake, on which the library may say to deliver in cleartext:
- * the relay leaves the host out for now.
+ * session; and where certificates don't matter, old TLS too. Returns 0 where that fails. That is a failure of the relay's own,
+ * never to be given as TWEEDSTORK_NOT_ESTABLISHED, which may be answered with cleartext: the relay leaves the host out for now.
  */
 int handshake_prepare(SSL *ssl, const struct tweedstork_host_facts *host);
 
@@ -48,8 +52,8 @@ int handshake_prepare(SSL *ssl, const struct tweedstork_host_facts *host);
  *        too: see at start-up that a certificate that should verify does).
  * host:  its three names are read: where a leaf has too many DNS-IDs, only those are given that can match one of them. So the facts
  *        are for this host alone.
- * Returns 0 where there are no facts: the session was resumed, memory is short, or certificates that may matter can't be read or are
- * outside the library's limits. The relay then leaves the host out, as after TWEEDSTORK_BAD_CERTIFICATES.
+ * Returns 0 where there are no facts: the session was resumed, memory is short, or the leaf can't be read or is outside the
+ * library's limits. The relay then leaves the host out, as after TWEEDSTORK_BAD_CERTIFICATES.
  */
 int certificate_facts_read(SSL *ssl, X509_STORE *roots, const struct tweedstork_host_facts *host, struct certificate_facts *facts);
 

@@ -193,16 +193,17 @@ enum { TWEEDSTORK_YES = 1, TWEEDSTORK_NO = 2 };
 enum tweedstork_origin {
     TWEEDSTORK_SECURE_MX = 1,
     TWEEDSTORK_INSECURE_MX = 2,
-    TWEEDSTORK_NO_MX = 3                    /* the domain exists and has no MX record: the host is the next-hop itself */
+    TWEEDSTORK_NO_MX = 3                    /* the domain exists and has no MX record, or a configured host needs no MX
+                                               lookup: the host is the next-hop itself */
 };
 
 /* The result of the host's address lookup. The three alias codes all want the expanded name. */
 enum tweedstork_address {
     TWEEDSTORK_NO_ALIAS_SECURE = 1,
     TWEEDSTORK_NO_ALIAS_INSECURE = 2,
-    TWEEDSTORK_ALIAS_SECURE = 3,            /* at every stage */
-    TWEEDSTORK_ALIAS_FIRST_STEP_SECURE = 4, /* but the address is not */
-    TWEEDSTORK_ALIAS_FIRST_STEP_INSECURE = 5,
+    TWEEDSTORK_ALIAS_SECURE = 3,            /* every step (CNAME) and the address are secure */
+    TWEEDSTORK_ALIAS_FIRST_STEP_SECURE = 4, /* the host's own CNAME is secure, the address at the end is not */
+    TWEEDSTORK_ALIAS_FIRST_STEP_INSECURE = 5, /* the host's own CNAME is insecure */
     TWEEDSTORK_ADDRESS_LOOKUP_FAILED = 6,   /* bogus, SERVFAIL, a time-out: never "absent" */
     TWEEDSTORK_ADDRESS_ABSENT = 7
 };
@@ -297,25 +298,28 @@ struct tweedstork_host_answer {
  * The relay calls with what it knows, learns the fact that the answer asks for, and calls again, until the answer is a verdict.
  * tweedstork_judge_facts takes the same by name.
  *
- * Takes:   in every call: clock (seconds since 1970), next_hop (the name that the MX lookup was made for), origin of the host
- *          list (enum tweedstork_origin), host (the name of the host to judge), address (result of its address lookup, enum
- *          tweedstork_address), expanded (the fully expanded host name, wanted with each of the three alias results, 3, 4 and
- *          5), policy_given (enum tweedstork_policy_given), policy (a body that tweedstork_read_policy accepted) and fetched
- *          (the clock of its fetch; with a policy never left zero: that is a policy of 1970, stale, so that a stripped
- *          STARTTLS is delivered in cleartext).
+ * Takes:   in every call: clock (seconds since 1970), next_hop (the name that the MX lookup was made for, or the configured
+ *          host where none was), origin of the host list (enum tweedstork_origin), host (the name of the host to judge),
+ *          address (result of its address lookup, enum tweedstork_address), expanded (the fully expanded host name, wanted with
+ *          each of the three alias results, 3, 4 and 5), policy_given (enum tweedstork_policy_given), policy (a body that
+ *          tweedstork_read_policy accepted) and fetched (the clock of its fetch; with a policy never left zero: that is a
+ *          policy of 1970, stale, so that a stripped STARTTLS is delivered in cleartext).
  *
  *          A TXT record that is missing or refused, a fetch that fails, or a body that tweedstork_read_policy refuses never
  *          replaces an earlier policy that is still live: the relay goes on giving that one, with the clock of its own fetch,
- *          until it is stale (RFC 8461, 3.1, 3.3 and 5.1). TWEEDSTORK_NO_POLICY only where there is none.
+ *          until it is stale (RFC 8461, 3.1, 3.3 and 5.1). TWEEDSTORK_NO_POLICY only where no live one is held (a stale one may
+ *          be given or not).
  *
  *          Then, as far as learnt, in this order:
- *          - tlsa_answers: how many TLSA answers are given, 0 to 2, in the order asked for; of each its result (tlsa1_result,
- *            tlsa2_result: enum tweedstork_tlsa_result) and, where that is TWEEDSTORK_TLSA_SECURE, its records: their RDATAs
- *            one after another, and a list of their lengths (up to 32 records of up to 4,096 bytes);
+ *          - tlsa_answers: how many TLSA answers are given, 0 to 2, in the order asked for (insecure, absent and failed are
+ *            answers too, and count); of each its result (tlsa1_result, tlsa2_result: enum tweedstork_tlsa_result) and, where
+ *            that is TWEEDSTORK_TLSA_SECURE, its records: their RDATAs one after another, and a list of their lengths (up to 32
+ *            records of up to 4,096 bytes);
  *          - starttls (enum tweedstork_starttls);
  *          - handshake (enum tweedstork_handshake);
- *          - certificates_given (enum tweedstork_certificates_given), and then the rest. Where the server showed no
- *            certificate, it is given all the same: empty lists, and no, no:
+ *          - certificates_given (enum tweedstork_certificates_given), and with it the following. Where the server showed no
+ *            certificate they are given all the same, with empty lists, and TWEEDSTORK_NO as trusted_root and
+ *            common_name_given;
  *          - certificates: as the server sent them, one after another, leaf first; certificate_lengths: list of their
  *            lengths (up to 8 of up to 16,384 bytes, 65,536 in all);
  *          - key_places: list of numbers, two for each certificate, start and length of its SubjectPublicKeyInfo, with its
@@ -338,8 +342,8 @@ struct tweedstork_host_answer {
  *          - 61, 64 and 65 may come of what the domain or the server sent: the relay leaves this host out and goes on with the
  *            others. They may also come of the relay's own mistake. It is the relay's where a name ends in a dot or isn't given
  *            as A-labels, expanded is empty under an alias result, the host of a domain with no MX isn't the next-hop, lengths
- *            don't sum to the bytes beside them, or a list doesn't have its four (key_places eight, digests 192) bytes for
- *            each record or certificate.
+ *            don't sum to the bytes beside them, a list doesn't have its four (key_places eight, digests 192) bytes for each
+ *            record or certificate, or a key place lies outside its certificate.
  *          - A server that shows over 8 certificates or over 64 DNS-IDs is refused (65), even where a TLSA record would match.
  *            Safely left out are certificates after the leaf whose path doesn't verify, with their key place, digests and
  *            path; and DNS-IDs that can match none of host, expanded name and next-hop, as long as one DNS-ID stays.
@@ -390,10 +394,10 @@ struct tweedstork_message_answer {
  *
  * Before:  the relay reads the answer of the MX lookup. It returns the message, with no call of this or of
  *          tweedstork_judge_host, where the domain does not exist (NXDOMAIN; RFC 5321, 5.1), and where it takes no mail (null
- *          MX: one MX record, with preference 0 and the root as its host; RFC 7505, 3). A domain that exists and has no MX
- *          record has one host, the next-hop itself, with preference 0 (TWEEDSTORK_NO_MX). It makes no call for an address
- *          literal (user@[192.0.2.1]): neither MTA-STS nor DANE speaks of it (RFC 8461, 3.4; RFC 7672, 2.2), and without its
- *          brackets it would pass as a name.
+ *          MX: one MX record, with the root as its host; RFC 7505, 3). A domain that exists and has no MX record has one host,
+ *          the next-hop itself, with preference 0 (TWEEDSTORK_NO_MX). It makes no call for an address literal
+ *          (user@[192.0.2.1]): neither MTA-STS nor DANE speaks of it (RFC 8461, 3.4; RFC 7672, 2.2), and without its brackets
+ *          it would pass as a name.
  * Takes:   mx_lookup: TWEEDSTORK_MX_ANSWERED or TWEEDSTORK_MX_FAILED.
  *          preferences: list of numbers, 1 to 32 of them, each 0 to 65,535, a host each. Of more hosts the relay gives the 32
  *          that come first by preference.
@@ -516,7 +520,8 @@ static inline struct tweedstork_host_answer tweedstork_judge_facts(const struct 
  *
  * 1 where tweedstork_judge_host would ask for certificate facts (12) were the handshake established; and where a TLSA answer is
  * not learnt yet, since its records may need them. 0 where the verdict is the same whatever the server shows; and where facts
- * are refused, since no verdict comes of them at all. What the facts say of STARTTLS, handshake and certificates is not read.
+ * are refused, since no verdict comes of them at all: so it is asked only where tweedstork_judge_facts answers 11. What the facts
+ * say of STARTTLS, handshake and certificates is not read.
  */
 static inline int tweedstork_certificates_matter(const struct tweedstork_host_facts *facts)
 {
