@@ -520,8 +520,8 @@ static inline struct tweedstork_host_answer tweedstork_judge_facts(const struct 
  *
  * 1 where tweedstork_judge_host would ask for certificate facts (12) were the handshake established; and where a TLSA answer is
  * not learnt yet, since its records may need them. 0 where the verdict is the same whatever the server shows; and where facts
- * are refused, since no verdict comes of them at all: so it is asked only where tweedstork_judge_facts answers 11. What the facts
- * say of STARTTLS, handshake and certificates is not read.
+ * are refused, since no verdict comes of them at all: see first that tweedstork_judge_facts refuses nothing. What the facts say of
+ * STARTTLS, handshake and certificates is not read.
  */
 static inline int tweedstork_certificates_matter(const struct tweedstork_host_facts *facts)
 {

@@ -1,6 +1,7 @@
 #!/usr/bin/env bash
 # What the documents say of the repository: that their links lead somewhere, that the definitions and laws they name stand in the
-# files they name, that README.md's table has the header's functions, and that the words of an answer number are the comment beside it.
+# crates, and in the files they name, that README.md's table has the header's functions, and that the words of an answer number are
+# the comment beside it. Whether they tell a rule rightly it can't see.
 # Usage: documents.sh
 set -euo pipefail
 export LC_ALL=C # one order for sort and comm
