@@ -11,7 +11,8 @@
  * What the library does not do:
  * - it has no resolver, no HTTPS, no TLS, no path checking and no hashing: the relay brings their results, and the answers are
  *   as good as these;
- * - it keeps no policies and asks for no parent domain's policy;
+ * - it keeps a policy only where the relay lends it a table for that (tweedstork_cache_store), and asks for no parent domain's
+ *   policy;
  * - it does not read the MX answer: null MX and a domain that does not exist are the relay's (see tweedstork_next_host);
  * - it does not read certificates: the relay says where the key info stands and which names and digests there are.
  *
@@ -37,9 +38,10 @@
  *   either end of a label, no dot at the end (cut off the one that resolvers print). Case doesn't matter; an international
  *   name is given as A-labels (xn--).
  * - An answer is a struct; its first field is the answer number, one of enum tweedstork_number. It is never zero.
- * - A refusal (40 to 67) has zero in every other field, and leaves the memory that you passed as it was, but for 42 (see
+ * - A refusal (40 to 80) has zero in every other field, and leaves the memory that you passed as it was, but for 42 (see
  *   tweedstork_read_txt).
- * - No call keeps a pointer, allocates or has state. Calls may run on any number of threads at once.
+ * - No call keeps a pointer, allocates or has state. Calls may run on any number of threads at once, but for a store into a cache:
+ *   it is alone with its table and texts.
  */
 #ifndef TWEEDSTORK_H
 #define TWEEDSTORK_H
@@ -52,8 +54,8 @@ extern "C" {
 #endif
 
 /* The version of this header. A number that another version gave a meaning to is never given a second one. */
-#define TWEEDSTORK_VERSION "1.0.0"
-#define TWEEDSTORK_VERSION_NUMBER 10000 /* major * 10000 + minor * 100 + patch */
+#define TWEEDSTORK_VERSION "1.1.0"
+#define TWEEDSTORK_VERSION_NUMBER 10100 /* major * 10000 + minor * 100 + patch */
 
 /* The version of the archive. It equals TWEEDSTORK_VERSION_NUMBER where header and archive belong together. */
 uint64_t tweedstork_version(void);
@@ -80,6 +82,8 @@ enum tweedstork_number {
                                                _25._tcp.NAME)? */
     TWEEDSTORK_ASK_TLSA_HOST = 14,          /* ask: which TLSA records are there at the host name (for port 25 at
                                                _25._tcp.NAME)? */
+    /* every other call that succeeds */
+    TWEEDSTORK_DONE = 15,                   /* done */
     /* verdicts on a host: go on to the next host */
     TWEEDSTORK_ADDRESS_FAILED = 20,         /* next host: address lookup failed */
     TWEEDSTORK_NO_ADDRESS = 21,             /* next host: no address */
@@ -103,8 +107,8 @@ enum tweedstork_number {
     TWEEDSTORK_POLICY_MALFORMED = 51,       /* refused: the policy is malformed (perhaps it is empty, or has a zero byte or an
                                                empty line) */
     TWEEDSTORK_POLICY_INCOMPLETE = 52,      /* refused: the policy lacks version, mode, max_age or mx */
-    TWEEDSTORK_BAD_NEXT_HOP = 60,           /* refused: the next-hop is no name (perhaps it is empty, or has a final dot, a
-                                               zero byte or an underscore) */
+    TWEEDSTORK_BAD_NEXT_HOP = 60,           /* refused: the next-hop, or a cache's domain, is no name (perhaps it is empty, or
+                                               has a final dot, a zero byte or an underscore) */
     TWEEDSTORK_BAD_HOST = 61,               /* refused: the host or the expanded name of an alias is no name (perhaps it is
                                                empty, or has a final dot, a zero byte or an underscore), or with no MX the host
                                                is not the next-hop */
@@ -118,8 +122,14 @@ enum tweedstork_number {
                                                a list that is missing or of the wrong length, lengths (four bytes each,
                                                big-endian) that do not sum, or a key place outside its certificate */
     TWEEDSTORK_FACT_MISSING = 66,           /* refused: a later fact is given while an earlier needed one is missing */
-    TWEEDSTORK_BAD_CODE = 67                /* refused: a code or yes/no number (each of the paths too) outside its choices,
+    TWEEDSTORK_BAD_CODE = 67,               /* refused: a code or yes/no number (each of the paths too) outside its choices,
                                                perhaps left zero, or over two TLSA answers */
+    TWEEDSTORK_CACHE_FULL = 70,             /* refused: no entry of the cache is the domain's own, empty or stale */
+    TWEEDSTORK_CACHE_TEXT_LONG = 71,        /* refused: the policy has over 1,024 bytes, which is the room of a cache's entry */
+    TWEEDSTORK_CACHE_NOT_FOUND = 72,        /* refused: the cache holds no live policy for the domain */
+    TWEEDSTORK_BAD_SIZE = 74,               /* refused: a cache whose table has not 64 entries, or whose texts have not 65,536
+                                               bytes */
+    TWEEDSTORK_BAD_ID = 80                  /* refused: the id is not 1 to 32 letters or digits */
 };
 
 /* An answer number in words: its sentence in enum tweedstork_number; for any other number, that it is none. Never NULL. */
@@ -141,6 +151,7 @@ static inline const char *tweedstork_answer_words(uint64_t number)
     case TWEEDSTORK_ASK_TLSA_EXPANDED:
         return "ask: which TLSA records are there at the expanded name (for port 25 at _25._tcp.NAME)?";
     case TWEEDSTORK_ASK_TLSA_HOST: return "ask: which TLSA records are there at the host name (for port 25 at _25._tcp.NAME)?";
+    case TWEEDSTORK_DONE: return "done";
     case TWEEDSTORK_ADDRESS_FAILED: return "next host: address lookup failed";
     case TWEEDSTORK_NO_ADDRESS: return "next host: no address";
     case TWEEDSTORK_TLSA_FAILED: return "next host: TLSA lookup failed, or a record has under 3 bytes";
@@ -163,7 +174,8 @@ static inline const char *tweedstork_answer_words(uint64_t number)
         return "refused: the policy is malformed (perhaps it is empty, or has a zero byte or an empty line)";
     case TWEEDSTORK_POLICY_INCOMPLETE: return "refused: the policy lacks version, mode, max_age or mx";
     case TWEEDSTORK_BAD_NEXT_HOP:
-        return "refused: the next-hop is no name (perhaps it is empty, or has a final dot, a zero byte or an underscore)";
+        return "refused: the next-hop, or a cache's domain, is no name (perhaps it is empty, or has a final dot, a zero byte "
+               "or an underscore)";
     case TWEEDSTORK_BAD_HOST:
         return "refused: the host or the expanded name of an alias is no name (perhaps it is empty, or has a final dot, a "
                "zero byte or an underscore), or with no MX the host is not the next-hop";
@@ -182,6 +194,13 @@ static inline const char *tweedstork_answer_words(uint64_t number)
     case TWEEDSTORK_BAD_CODE:
         return "refused: a code or yes/no number (each of the paths too) outside its choices, perhaps left zero, or over "
                "two TLSA answers";
+    case TWEEDSTORK_CACHE_FULL: return "refused: no entry of the cache is the domain's own, empty or stale";
+    case TWEEDSTORK_CACHE_TEXT_LONG:
+        return "refused: the policy has over 1,024 bytes, which is the room of a cache's entry";
+    case TWEEDSTORK_CACHE_NOT_FOUND: return "refused: the cache holds no live policy for the domain";
+    case TWEEDSTORK_BAD_SIZE:
+        return "refused: a cache whose table has not 64 entries, or whose texts have not 65,536 bytes";
+    case TWEEDSTORK_BAD_ID: return "refused: the id is not 1 to 32 letters or digits";
     default: return "no answer number; zero is none, and means that nobody answered";
     }
 }
@@ -286,6 +305,93 @@ struct tweedstork_policy_answer {
  * Leaves:  all memory as it was.
  */
 struct tweedstork_policy_answer tweedstork_read_policy(const uint8_t *body, size_t body_length);
+
+/*
+ * A cache of policies, in memory that the relay lends: a table of 64 entries and, in a second buffer, 1,024 bytes of policy text
+ * for each. All zeros is an empty cache. Store and lookup are all that the relay needs; it may also write table and texts to a
+ * file and read them back on the same kind of machine, since whatever stands in them is checked at every call.
+ */
+enum { TWEEDSTORK_CACHE_ENTRIES = 64, TWEEDSTORK_CACHE_TEXT_ROOM = 1024, TWEEDSTORK_CACHE_TEXTS_SIZE = 65536 };
+
+/*
+ * An entry. It counts as empty where its length is over 1,024; where its domain is no name or its id not 1 to 32 letters or
+ * digits, each without the zeros at its end; where fetched is no clock; or where its text is no policy that
+ * tweedstork_read_policy accepts.
+ */
+struct tweedstork_cache_entry {
+    uint8_t domain[253];                    /* filled up with zeros */
+    uint8_t id[32];                         /* filled up with zeros */
+    uint64_t fetched;                       /* the clock of the store */
+    uint64_t length;                        /* of the policy's text; that of the entry at place i begins at texts[1024 * i] */
+};
+
+/* The archive is built for entries of 304 bytes: elsewhere this does not compile. */
+enum { TWEEDSTORK_CACHE_ENTRY_HAS_304_BYTES = 1 / (sizeof(struct tweedstork_cache_entry) == 304) };
+
+/* The memory of one cache. A static one is all zeros from the start, and so empty. */
+struct tweedstork_cache {
+    struct tweedstork_cache_entry table[TWEEDSTORK_CACHE_ENTRIES];
+    uint8_t texts[TWEEDSTORK_CACHE_TEXTS_SIZE];
+};
+
+struct tweedstork_write_answer {
+    uint64_t number;
+    uint64_t length;                        /* how many bytes were written to the call's output: 0 where it has none */
+};
+
+/*
+ * Keeps a domain's policy in the cache, with its id and the clock of its fetch.
+ *
+ * Takes:   clock: of the fetch, which is now. domain: the name that the policy was fetched for. id: of its TXT record.
+ *          policy: its body. table, table_length: the entries, and how many there are. texts: the buffer of their texts.
+ *          No argument may overlap table or texts: to store again a text that tweedstork_cache_lookup found, copy it first.
+ * Answers: TWEEDSTORK_DONE; length is 0. The policy takes the place of the domain's own entry, also of a stale one (domains compare
+ *          ignoring ASCII case; of several own entries the first); else of the first entry that counts as empty; else of the
+ *          first that is stale by now.
+ *
+ *          Refusals, in this order: TWEEDSTORK_BAD_SIZE, TWEEDSTORK_BAD_CLOCK, TWEEDSTORK_BAD_NEXT_HOP (the domain is no
+ *          name), TWEEDSTORK_BAD_ID, those of tweedstork_read_policy, TWEEDSTORK_CACHE_TEXT_LONG, TWEEDSTORK_CACHE_FULL.
+ *          After any of them the relay uses the policy that it fetched; it is only not kept.
+ * Leaves:  the one entry and the bytes of its text written, in texts from 1024 * its place on; all else as it was. The
+ *          domain stands in the entry as it was spelled. A refusal leaves everything as it was.
+ */
+struct tweedstork_write_answer tweedstork_cache_store(
+    uint64_t clock,
+    const uint8_t *domain, size_t domain_length,
+    const uint8_t *id, size_t id_length,
+    const uint8_t *policy, size_t policy_length,
+    struct tweedstork_cache_entry *table, size_t table_length,
+    uint8_t *texts, size_t texts_length);
+
+struct tweedstork_cache_answer {
+    uint64_t number;
+    uint64_t length;                        /* 0: this call writes nothing */
+    uint64_t text_start;
+    uint64_t text_length;
+    uint64_t fetched;
+    uint64_t id_length;
+    uint8_t id[32];                         /* filled up with zeros */
+};
+
+/*
+ * Finds a domain's live policy in the cache.
+ *
+ * Takes:   clock: now. domain: the name that the policy is for. table, table_length: the entries, and how many there are.
+ *          texts: the buffer of their texts.
+ * Answers: TWEEDSTORK_DONE with the policy as a part of texts, text_length bytes from text_start on; fetched, the clock of
+ *          its fetch, for tweedstork_judge_host; and its id, id_length bytes, to hold against the TXT record's. length is 0.
+ *          TWEEDSTORK_CACHE_NOT_FOUND where the domain has no entry, or its entry is stale: of several the first counts, so a
+ *          stale one hides a live one behind it.
+ *
+ *          Refusals, in this order: TWEEDSTORK_BAD_SIZE, TWEEDSTORK_BAD_CLOCK, TWEEDSTORK_BAD_NEXT_HOP (the domain is no
+ *          name), TWEEDSTORK_CACHE_NOT_FOUND.
+ * Leaves:  all memory as it was. The next store may overwrite the text that was found.
+ */
+struct tweedstork_cache_answer tweedstork_cache_lookup(
+    uint64_t clock,
+    const uint8_t *domain, size_t domain_length,
+    const struct tweedstork_cache_entry *table, size_t table_length,
+    const uint8_t *texts, size_t texts_length);
 
 struct tweedstork_host_answer {
     uint64_t number;

@@ -1,5 +1,4 @@
 pub mod Letter
 pub mod LetterMarks
 pub mod Name
-pub mod Blank
 mod Worked

@@ -5,10 +5,10 @@ use mathlib.Core.Bool.{true, false}
 use mathlib.Core.List.{[], _∷_, map}
 use Rattle.lists.specs.Bytes.{all}
 use Rattle.lists.specs.Split.{indexOf}
-use Rattle.lists.specs.Span.{spanOf}
+use Rattle.lists.specs.Span.{spanOf, trimmedLength}
 use Rattle.lists.specs.Text.{text}
 use Rattle.fields.specs.Name.{letterOrDigit, nameByte, isFieldName, hasName, before, after}
-use Rattle.fields.specs.Blank.{blank, unblanked, afterBlanks, beforeBlanks}
+use Rattle.fields.specs.Blank.{blank, afterBlanks, beforeBlanks}
 
 -- a letter or digit first; then `_ - .` too; 32 bytes and no more
 names : map isFieldName (text "id" ∷ text "max_age" ∷ text "0-.x" ∷ text "abcdefghijklmnopqrstuvwxyz-1234_" ∷ []) ≡ true ∷ true ∷ true ∷ true ∷ []
@@ -38,5 +38,5 @@ unfolding blank spanOf
 front = refl
 
 back : map beforeBlanks (text " a b\t " ∷ text " \t" ∷ text "a\n" ∷ []) ≡ text " a b" ∷ text "" ∷ text "a\n" ∷ []
-unfolding blank unblanked all
+unfolding blank trimmedLength all
 back = refl

@@ -1,12 +1,11 @@
 -- Document 01, "TXT record" and "Policy body": blanks, any number of spaces or tabs.
 use Prim.Native.Char.{code}
-use Prim.Native.Nat.{ℕ, suc}
-use mathlib.Core.Bool.{Bool, cond, _||_}
-use mathlib.Core.List.{List, [], _∷_}
+use Prim.Native.Nat.{ℕ}
+use mathlib.Core.Bool.{Bool, _||_}
+use mathlib.Core.List.{List}
 use lib.Dec.{eqb}
-use lib.ListN.{take, drop}
-use Rattle.lists.specs.Bytes.{all}
-use Rattle.lists.specs.Span.{spanOf}
+use lib.ListN.{drop}
+use Rattle.lists.specs.Span.{spanOf, trimmedLength, trimmed}
 
 -- a space or a tab
 unfoldable pub blank : ℕ → Bool
@@ -17,10 +16,9 @@ abbrev pub afterBlanks : List ℕ → List ℕ
 afterBlanks s = drop (spanOf blank s) s
 
 -- how many bytes a text has without the blanks at its end
-unfoldable pub unblanked : List ℕ → ℕ
-unblanked [] = 0
-unblanked (b ∷ s) = cond (all blank (b ∷ s)) 0 (suc (unblanked s))
+abbrev pub unblanked : List ℕ → ℕ
+unblanked s = trimmedLength blank s
 
 -- a text without the blanks at its end
 abbrev pub beforeBlanks : List ℕ → List ℕ
-beforeBlanks s = take (unblanked s) s
+beforeBlanks s = trimmed blank s

@@ -8,6 +8,7 @@ use native.Mathlib.Omega.{arith}
 use lib.Dec.{T, eqb, leb}
 use lib.ListN.{length, getD, take, drop}
 use borrow.Author.Tests.{le-leb, leb-true, eq-eqb, eqb-true}
+use Rattle.lists.specs.Check.{Check}
 use Rattle.lists.specs.Bytes.{all, within, isBytes}
 use Rattle.lists.proofs.Bools.{apart, and-left, and-right, and-intro, holds, by-true, or-right, neither-right, never}
 use Rattle.lists.proofs.All.{all-take, all-drop, all-at}
@@ -26,7 +27,7 @@ use Rattle.certificates.proofs.Written.{nameOf, facts-limits}
 use Rattle.hosts.specs.declared.HostAnswer.{HostAnswer}
 use Rattle.hosts.specs.Facts.{tlsa, first, second, starttls, handshake, certificates, given}
 use Rattle.hosts.specs.Arguments.{Arguments, originOf, addressOf, isAlias, lookupOf, when, baseOf, presentedIn, factsOf}
-use Rattle.hosts.specs.Call.{ifSupplied, codesFit, clocksFit, hostFits, hostNamesFit, policyFits, answersFit, certificatesFit, Check, checks, refused, checked, walked, hostAnswer}
+use Rattle.hosts.specs.Call.{ifSupplied, codesFit, clocksFit, hostFits, hostNamesFit, policyFits, answersFit, certificatesFit, checks, refused, checked, walked, hostAnswer}
 use Rattle.hosts.specs.Demands.{isRefusal, IsPassed}
 use Rattle.hosts.proofs.Trees.{GivenOk}
 use Rattle.hosts.proofs.Values.{OkAnswer, sized, okCertificate, OkPresented, Ok}

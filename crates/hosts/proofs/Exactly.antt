@@ -6,6 +6,7 @@ use mathlib.Core.List.{List, [], _∷_}
 use native.Mathlib.Omega.{arith}
 use lib.Dec.{eqb, leb}
 use borrow.Author.Tests.{le-leb, leb-true, ne-eqb, eqb-true}
+use Rattle.lists.specs.Check.{Check}
 use Rattle.lists.specs.Bytes.{within}
 use Rattle.lists.proofs.Bools.{apart, and-left, and-right}
 use Rattle.names.specs.Name.{isName}
@@ -16,7 +17,7 @@ use Rattle.hosts.specs.Facts.{Facts, later}
 use Rattle.hosts.specs.Tree.{Outcome, final, missing, walk, answersRead}
 use Rattle.hosts.specs.Rules.{rules}
 use Rattle.hosts.specs.Arguments.{Arguments, baseOf, factsOf}
-use Rattle.hosts.specs.Call.{codesFit, clocksFit, hostNamesFit, policyFits, answersFit, certificatesFit, Check, checks, refused, checked, outcomeAnswer, walked, hostAnswer}
+use Rattle.hosts.specs.Call.{codesFit, clocksFit, hostNamesFit, policyFits, answersFit, certificatesFit, checks, refused, checked, outcomeAnswer, walked, hostAnswer}
 use Rattle.hosts.specs.Demands.{isRefusal}
 use Rattle.hosts.proofs.Trees.{Comes, comes}
 use Rattle.hosts.proofs.Shape.{isQuestion, verdict-no-refusal, question-no-refusal, each-rules}

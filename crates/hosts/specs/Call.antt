@@ -3,6 +3,7 @@ use Prim.Native.Nat.{ℕ}
 use mathlib.Core.Bool.{Bool, true, cond, not, _&&_, _||_}
 use mathlib.Core.List.{List, [], _∷_}
 use lib.Dec.{eqb, leb}
+use Rattle.lists.specs.Check.{Check}
 use Rattle.lists.specs.Bytes.{within, all}
 use Rattle.lists.specs.Equal.{sameText}
 use Rattle.numbers.specs.Numbers.{numbers}
@@ -70,11 +71,6 @@ unfoldable pub certificatesFit : Arguments → Bool
 certificatesFit a =
     ifSupplied (eqb (a .numbers .«certificates_given») 1)
     (factsFit (a .certificates) (a .certificateLengths) (a .keyPlaces) (a .digests) (a .paths) (a .dnsIds) (a .dnsIdLengths) (eqb (a .numbers .«common_name_given») 1) (a .commonName))
-
--- a test of the arguments, and the refusal where it fails
-pub record Check : Type 0 where
-  pub passes : Bool
-  pub refusal : ℕ
 
 -- the checks, in the order 67, 62, 60, 61, 50 to 52, 64, 65
 unfoldable pub checks : Arguments → List Check

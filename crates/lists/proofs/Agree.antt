@@ -133,3 +133,27 @@ agree-lengths p [] [] h = refl
 agree-lengths p [] (y ∷ b) h = never cc
 agree-lengths p (x ∷ a) [] h = never cc
 agree-lengths p (x ∷ a) (y ∷ b) h = ap suc (agree-lengths p a b (and-right (p x y) (agree p a b) h))
+
+-- two texts that are the same as each other are the same as the same texts
+pub text-like : (h d e : List ℕ) → sameText d e ≡ true → sameText h d ≡ sameText h e
+unfolding agree sameLetter
+text-like [] [] [] s = refl
+text-like [] [] (y ∷ e) s = apart s
+text-like [] (x ∷ d) [] s = apart s
+text-like [] (x ∷ d) (y ∷ e) s = refl
+text-like (w ∷ h) [] [] s = refl
+text-like (w ∷ h) [] (y ∷ e) s = apart s
+text-like (w ∷ h) (x ∷ d) [] s = apart s
+text-like (w ∷ h) (x ∷ d) (y ∷ e) s =
+    let l : lowerOf x ≡ lowerOf y = eqb-true (lowerOf x) (lowerOf y) (and-left (eqb (lowerOf x) (lowerOf y)) (agree sameLetter d e) s) in
+    rw (l, text-like h d e (and-right (eqb (lowerOf x) (lowerOf y)) (agree sameLetter d e) s))
+
+pub text-alike : (h d e : List ℕ) → sameText h d ≡ true → sameText h e ≡ sameText d e
+unfolding agree sameLetter
+text-alike [] [] e s = refl
+text-alike [] (x ∷ d) e s = apart s
+text-alike (w ∷ h) [] e s = apart s
+text-alike (w ∷ h) (x ∷ d) [] s = refl
+text-alike (w ∷ h) (x ∷ d) (y ∷ e) s =
+    let l : lowerOf w ≡ lowerOf x = eqb-true (lowerOf w) (lowerOf x) (and-left (eqb (lowerOf w) (lowerOf x)) (agree sameLetter h d) s) in
+    rw (l, text-alike h d e (and-right (eqb (lowerOf w) (lowerOf x)) (agree sameLetter h d) s))

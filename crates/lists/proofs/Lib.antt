@@ -10,3 +10,6 @@ pub mod Write
 pub mod Words
 pub mod Lanes
 pub mod Marks
+pub mod Trim
+pub mod Place
+pub mod Check

@@ -5,3 +5,5 @@ pub mod Span
 pub mod Text
 pub mod Write
 pub mod Words
+pub mod Place
+pub mod Check

@@ -217,6 +217,16 @@ pub fn equal_ignoring_case(a: &[u8], b: &[u8]) -> bool
     equal_ignoring_case_from(a, b, i)
 }
 
+// The same as `equal_ignoring_case`, letter by letter from the first on: for texts of which most differ early.
+pub fn equal_by_letter(a: &[u8], b: &[u8]) -> bool
+    ensures { λ r. ⌜ r ≡ sameText (now (a .entry)) (now (b .entry)) ⌝ }
+{
+    if a.len() != b.len() {
+        return false;
+    }
+    equal_ignoring_case_from(a, b, 0)
+}
+
 // The index of the first b of s at or after `from`, or the length of s where there is none; `from` where it is past the end.
 pub fn find(s: &[u8], b: u8, from: usize) -> usize
     ensures { λ r. ⌜ r ≡ from + indexOf b (drop from (now (s .entry))) ⌝ }

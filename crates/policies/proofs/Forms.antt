@@ -9,15 +9,15 @@ use lib.ListN.{length, getD, take, drop, length-append, take-append-drop, drop-o
 use lib.Seq.{take-length, take-append-le, drop-append-le, drop-append-add}
 use borrow.Author.Tests.{leb-true, eqb-false, ne-eqb, not-true, lt-ltb, le-ltb, ltb-true, ltb-false}
 use Rattle.lists.specs.Bytes.{all}
-use Rattle.lists.specs.Span.{spanOf}
+use Rattle.lists.specs.Span.{spanOf, trimmedLength}
 use Rattle.lists.specs.Split.{indexOf, lacks}
 use Rattle.lists.proofs.Span.{span-all, span-append}
+use Rattle.lists.proofs.Trim.{trim-rest, trim-whole, trim-gone, trim-start, trim-stop}
 use Rattle.lists.proofs.Bools.{and-both}
 use Rattle.lists.proofs.All.{all-append, all-drop, all-at, all-lacks}
 use Rattle.lists.proofs.Split.{index-append, index-beyond, index-lacks}
 use Rattle.fields.specs.Blank.{blank, unblanked, afterBlanks, beforeBlanks}
 use Rattle.fields.specs.Name.{nameByte, letterOrDigit, hasName, before, after}
-use Rattle.fields.proofs.Blank.{unblanked-le, back-start, back-stop}
 use Rattle.fields.proofs.Name.{has-name, has-whole, written-has, written-before, written-after, name-bytes}
 use Rattle.policies.specs.Texts.{isText, isValue}
 use Rattle.policies.specs.Fields.{nameOf, valueOf, isLine, isNamed}
@@ -29,16 +29,6 @@ use Rattle.policies.proofs.Unicode.{graphic, text-graphic}
 abbrev pub pairOf : List ℕ → Pair
 pairOf l = record { name = nameOf l; value = valueOf l }
 
--- what follows the last byte that is no blank is blank
-rest-blank : (t : List ℕ) → all blank (drop (unblanked t) t) ≡ true
-unfolding unblanked all
-rest-blank [] = refl
-rest-blank (b ∷ s) = go (rest-blank s) (all blank (b ∷ s)) refl
-  where
-    go : all blank (drop (unblanked s) s) ≡ true → (t : Bool) → all blank (b ∷ s) ≡ t → all blank (drop (cond t 0 (suc (unblanked s))) (b ∷ s)) ≡ true
-    go ih true e = e
-    go ih false e = ih
-
 -- a line that the definition accepts is one that the paper writes
 pub line-made : (l : List ℕ) → isLine l ≡ true → Line l (pairOf l)
 unfolding isLine nameOf valueOf
@@ -47,27 +37,11 @@ line-made l h =
     let d : List ℕ = after 58 l in
     let t : List ℕ = afterBlanks d in
     let whole : l ≡ before 58 l ++ (58 ∷ (take (spanOf blank d) d ++ (take (unblanked t) t ++ drop (unblanked t) t))) = has-whole 58 l (k .0) ∙ rw (take-append-drop (unblanked t) t, take-append-drop (spanOf blank d) d) in
-    subst (λ (x : List ℕ). Line x (pairOf l)) (sym whole) (line (before 58 l) (take (spanOf blank d) d) (take (unblanked t) t) (drop (unblanked t) t) (has-name 58 l (k .0)) (span-all blank d) (k .1) (rest-blank t))
+    subst (λ (x : List ℕ). Line x (pairOf l)) (sym whole) (line (before 58 l) (take (spanOf blank d) d) (take (unblanked t) t) (drop (unblanked t) t) (has-name 58 l (k .0)) (span-all blank d) (k .1) (trim-rest blank t))
 
 -- blanks before a text, and blanks after it, are gone
 front-gone : (b t : List ℕ) → all blank b ≡ true → afterBlanks (b ++ t) ≡ afterBlanks t
 front-gone b t h = rw (span-append blank b t h) (drop-append-add b t (spanOf blank t))
-
-unblanked-blank : (e : List ℕ) → all blank e ≡ true → unblanked e ≡ 0
-unfolding unblanked
-unblanked-blank [] h = refl
-unblanked-blank (x ∷ e) h = rw h
-
-unblanked-append : (u e : List ℕ) → all blank e ≡ true → unblanked (u ++ e) ≡ unblanked u
-unfolding unblanked
-unblanked-append [] e h = unblanked-blank e h
-unblanked-append (x ∷ u) e h = go (unblanked-append u e h) (all-append blank (x ∷ u) e ∙ rw (h, and-true (all blank (x ∷ u))))
-  where
-    go : unblanked (u ++ e) ≡ unblanked u → all blank ((x ∷ u) ++ e) ≡ all blank (x ∷ u) → cond (all blank ((x ∷ u) ++ e)) 0 (suc (unblanked (u ++ e))) ≡ cond (all blank (x ∷ u)) 0 (suc (unblanked u))
-    go ih k = rw (k, ih)
-
-back-gone : (u e : List ℕ) → all blank e ≡ true → beforeBlanks (u ++ e) ≡ beforeBlanks u
-back-gone u e h = rw (unblanked-append u e h) (take-append-le (unblanked u) u e (unblanked-le u))
 
 -- the ends of a value are no blanks
 not-blank : (b : ℕ) → graphic b ≡ true → (b ≡ 32 → ⊥) → blank b ≡ false
@@ -101,11 +75,11 @@ module _ (v : List ℕ) (h : isValue v ≡ true) where
   value-back : unblanked v ≡ length v
   value-back =
       let one : 1 ≤ length v = value-parts .0 in
-      sym (back-stop v (length v) (back-start v) (omega arith) false (omega arith) (sym (not-blank (getD v (length v - 1) 0) (all-at graphic 0 v (length v - 1) (omega arith) value-graphic) (value-parts .2))) refl)
+      sym (trim-stop blank v (length v) (trim-start blank v) (omega arith) false (omega arith) (sym (not-blank (getD v (length v - 1) 0) (all-at graphic 0 v (length v - 1) (omega arith) value-graphic) (value-parts .2))) refl)
 
   -- so a value between blanks is read back
   value-alone : (b c : List ℕ) → all blank b ≡ true → all blank c ≡ true → beforeBlanks (afterBlanks (b ++ (v ++ c))) ≡ v
-  value-alone b c hb hc = rw (front-gone b (v ++ c) hb, value-front c) (back-gone v c hc ∙ rw value-back (take-length v))
+  value-alone b c hb hc = rw (front-gone b (v ++ c) hb, value-front c) (trim-gone blank v c hc ∙ rw value-back (take-length v))
 
 -- a line that the paper writes is accepted, with its name and value
 colon-apart : nameByte 58 ≡ false
@@ -134,13 +108,13 @@ line-some l f (line n b v c hn hb hv hc) = omega (arith, length-append n (58 ∷
 
 -- Blanks at the end of a line, of the form or not, change neither its form, nor its value, nor its name
 value-end : (t e : List ℕ) → all blank e ≡ true → beforeBlanks (afterBlanks (t ++ e)) ≡ beforeBlanks (afterBlanks t)
-unfolding spanOf unblanked
-value-end [] e h = rw (unblanked-blank (afterBlanks e) (all-drop blank (spanOf blank e) e h))
+unfolding spanOf trimmedLength
+value-end [] e h = rw (trim-whole blank (afterBlanks e) (all-drop blank (spanOf blank e) e h))
 value-end (x ∷ t) e h = go (value-end t e h) (blank x)
   where
     go : beforeBlanks (afterBlanks (t ++ e)) ≡ beforeBlanks (afterBlanks t) → (b : Bool) → beforeBlanks (drop (cond b (suc (spanOf blank (t ++ e))) 0) (x ∷ (t ++ e))) ≡ beforeBlanks (drop (cond b (suc (spanOf blank t)) 0) (x ∷ t))
     go ih true = ih
-    go ih false = back-gone (x ∷ t) e h
+    go ih false = trim-gone blank (x ∷ t) e h
 
 blank-colon : blank 58 ≡ false
 unfolding blank

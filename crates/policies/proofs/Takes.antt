@@ -12,10 +12,11 @@ use borrow.Author.Needs.{needs}
 use borrow.Author.Tests.{not-true, not-false, ne-eqb, leb-true}
 use Rattle.lists.specs.Bytes.{all}
 use Rattle.lists.specs.Equal.{sameBytes}
-use Rattle.lists.specs.Span.{spanOf}
+use Rattle.lists.specs.Span.{spanOf, trimmedLength}
 use Rattle.lists.specs.Split.{indexOf}
 use Rattle.lists.specs.Text.{text}
 use Rattle.lists.proofs.Laws.{take-rest}
+use Rattle.lists.proofs.Trim.{trim-le, trim-length, trim-last}
 use Rattle.lists.proofs.Span.{span-le, span-stops}
 use Rattle.lists.proofs.All.{all-drop, all-take}
 use Rattle.lists.proofs.Bools.{never}
@@ -23,7 +24,6 @@ use Rattle.names.specs.declared.Pattern.{Pattern}
 use Rattle.names.specs.Name.{isPattern, matchesName, patternFor}
 use Rattle.fields.specs.Name.{after, hasName}
 use Rattle.fields.specs.Blank.{blank, unblanked}
-use Rattle.fields.proofs.Blank.{unblanked-le}
 use Rattle.policies.specs.declared.Cause.{Cause}
 use Rattle.policies.specs.declared.Kind.{Kind}
 use Rattle.policies.specs.declared.MaybeMode.{MaybeMode}
@@ -165,7 +165,7 @@ module _ (l : List ℕ) (e : ℕ) (at : e ≡ indexOf 58 l) (w : e < length l) (
 
   module _ (to : ℕ) (g : to ≡ unblanked (take (length l - from) (drop from l))) where
     pub to-fits : to ≤ length (take (length l - from) (drop from l))
-    to-fits = omega (arith, unblanked-le (take (length l - from) (drop from l)))
+    to-fits = omega (arith, trim-le blank (take (length l - from) (drop from l)))
 
     pub value-is : take (to - 0) (take (length l - from) (drop from l)) ≡ valueOf l
     value-is =
@@ -189,47 +189,23 @@ no-space : (b : ℕ) → blank b ≡ false → b ≡ 32 → ⊥
 unfolding blank
 no-space b h e = let z : _≡_ {A = ℕ} 0 1 = cc in omega arith
 
-all-blank : (t : List ℕ) → unblanked t ≡ 0 → all blank t ≡ true
-unfolding unblanked all
-all-blank [] h = refl
-all-blank (b ∷ t) h = go (all blank (b ∷ t)) h
-  where
-    go : (y : Bool) → cond y 0 (suc (unblanked t)) ≡ 0 → y ≡ true
-    go true h = refl
-    go false h = absurd (omega arith)
-
-last-kept : (t : List ℕ) → 1 ≤ unblanked t → blank (getD t (unblanked t - 1) 0) ≡ false
-unfolding unblanked all
-last-kept [] h = absurd (omega arith)
-last-kept (b ∷ t) h = go (last-kept t) (all-blank t) (unblanked t) refl (all blank (b ∷ t)) refl h
-  where
-    go : (1 ≤ unblanked t → blank (getD t (unblanked t - 1) 0) ≡ false) → (unblanked t ≡ 0 → all blank t ≡ true) → (k : ℕ) → unblanked t ≡ k → (y : Bool) → (blank b && all blank t) ≡ y → 1 ≤ cond y 0 (suc (unblanked t)) → blank (getD (b ∷ t) (cond y 0 (suc (unblanked t)) - 1) 0) ≡ false
-    go ih nb k e true f h = absurd (omega arith)
-    go ih nb zero e false f h =
-        let z : suc (unblanked t) - 1 ≡ 0 = omega arith in
-        rw z (sym (and-true (blank b)) ∙ rw (nb e) at f)
-    go ih nb (suc k) e false f h =
-        let z : suc (unblanked t) - 1 ≡ suc k = omega arith in
-        let y : unblanked t - 1 ≡ k = omega arith in
-        rw z (rw y at (ih (omega arith)))
-
 module _ (d : List ℕ) (h : 1 ≤ length (take (unblanked (drop (spanOf blank d) d)) (drop (spanOf blank d) d))) where
   abbrev rest : List ℕ
   rest = drop (spanOf blank d) d
 
   size : length (take (unblanked rest) rest) ≡ unblanked rest
-  size = length-take-le (unblanked rest) rest (unblanked-le rest)
+  size = trim-length blank rest
 
   front : getD (take (unblanked rest) rest) 0 0 ≡ 32 → ⊥
   front e =
       let k : getD (take (unblanked rest) rest) 0 0 ≡ getD d (spanOf blank d + 0) 0 = getD-take (unblanked rest) rest 0 0 (omega (arith, size)) ∙ getD-drop (spanOf blank d) d 0 0 in
       let z : spanOf blank d + 0 ≡ spanOf blank d = omega arith in
-      no-space (getD d (spanOf blank d) 0) (span-stops blank d (omega (arith, size, unblanked-le rest, length-drop (spanOf blank d) d))) (rw z at (sym k ∙ e))
+      no-space (getD d (spanOf blank d) 0) (span-stops blank d (omega (arith, size, trim-le blank rest, length-drop (spanOf blank d) d))) (rw z at (sym k ∙ e))
 
   back : getD (take (unblanked rest) rest) (length (take (unblanked rest) rest) - 1) 0 ≡ 32 → ⊥
   back e =
       let k : getD (take (unblanked rest) rest) (unblanked rest - 1) 0 ≡ getD rest (unblanked rest - 1) 0 = getD-take (unblanked rest) rest (unblanked rest - 1) 0 (omega (arith, size)) in
-      no-space (getD rest (unblanked rest - 1) 0) (last-kept rest (omega (arith, size))) (sym k ∙ rw size at e)
+      no-space (getD rest (unblanked rest - 1) 0) (trim-last blank rest (omega (arith, size))) (sym k ∙ rw size at e)
 
 stripped : (l : List ℕ) → isValue (valueOf l) ≡ strippedValue (valueOf l)
 unfolding isValue strippedValue valueOf

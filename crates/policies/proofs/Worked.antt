@@ -6,12 +6,12 @@ use mathlib.Core.List.{List, [], _∷_, map}
 use mathlib.Core.Option.{Option, none, some}
 use Rattle.lists.specs.Bytes.{all, any, lowerOf}
 use Rattle.lists.specs.Equal.{agree, sameByte, sameLetter}
-use Rattle.lists.specs.Span.{spanOf}
+use Rattle.lists.specs.Span.{spanOf, trimmedLength}
 use Rattle.lists.specs.Split.{indexOf, split, toFirst}
 use Rattle.lists.specs.Text.{text}
 use Rattle.names.specs.Name.{labelByte, isLabel, isName, isStarred, isWildcard, isPattern, matchesName, someMatches}
 use Rattle.clock.specs.Clock.{cappedAge}
-use Rattle.fields.specs.Blank.{blank, unblanked}
+use Rattle.fields.specs.Blank.{blank}
 use Rattle.fields.specs.Name.{letterOrDigit, nameByte, isFieldName, hasName}
 use Rattle.policies.specs.declared.PolicyAnswer.{PolicyAnswer}
 use Rattle.policies.specs.declared.Cause.{Cause}
@@ -39,7 +39,7 @@ answers : map policyAnswer
     ∷ text "version: STSv1\nmode: none\nmax_age: 1\nmx: *.*.a\n"
     ∷ text "" ∷ [])
     ≡ accepted 1 604800 3 ∷ accepted 2 1296000 3 ∷ accepted 1 7 1 ∷ accepted 3 31557600 0 ∷ refused 52 ∷ refused 52 ∷ refused 52 ∷ refused 51 ∷ refused 51 ∷ refused 51 ∷ refused 51 ∷ []
-unfolding all any agree sameByte spanOf indexOf split toFirst labelByte isLabel isName isStarred isWildcard isPattern cappedAge blank unblanked letterOrDigit nameByte isFieldName hasName utf8Tail utf8Two utf8Three utf8Four printable isText isValue lines lineStart nameOf valueOf isLine isNamed firstNamed patterns isVersion modeOf isDigit decimalAfter ageOf isThere isFirst causeAfter faultAt orLater firstFault bodyFault modeIn ageIn hasPatterns complete completed judged readBody modeNumber answerTo policyAnswer
+unfolding all any agree sameByte spanOf indexOf split toFirst labelByte isLabel isName isStarred isWildcard isPattern cappedAge blank trimmedLength letterOrDigit nameByte isFieldName hasName utf8Tail utf8Two utf8Three utf8Four printable isText isValue lines lineStart nameOf valueOf isLine isNamed firstNamed patterns isVersion modeOf isDigit decimalAfter ageOf isThere isFirst causeAfter faultAt orLater firstFault bodyFault modeIn ageIn hasPatterns complete completed judged readBody modeNumber answerTo policyAnswer
 answers = refl
 
 -- the first fault, its line and where that begins: an empty line, a final CR, a lone CR, a blank before the colon, a tab inside a value, DEL, and contents
@@ -51,7 +51,7 @@ faults : map bodyFault
     ∷ (97 ∷ 58 ∷ 32 ∷ 0x7F ∷ []) ∷ text "mx: a.b\nversion: STSv1\nmx: -a.b\nmode: x" ∷ text "a: b\nmax_age: 1s\n" ∷ text "version: STSv1\nversion: 2\nmode: Enforce\n" ∷ text "a: b" ∷ [])
     ≡ fault Cause.Form 2 11 ∷ fault Cause.Form 2 6 ∷ fault Cause.Form 2 5 ∷ fault Cause.Form 2 5 ∷ fault Cause.Form 1 0
     ∷ fault Cause.Form 1 0 ∷ fault Cause.Mx 3 23 ∷ fault Cause.MaxAge 2 5 ∷ fault Cause.Mode 3 26 ∷ none ∷ []
-unfolding all any agree sameByte spanOf indexOf split toFirst labelByte isLabel isName isStarred isWildcard isPattern blank unblanked letterOrDigit nameByte isFieldName hasName utf8Tail utf8Two utf8Three utf8Four printable isText isValue lines lineStart nameOf valueOf isLine isNamed isVersion modeOf isDigit decimalAfter ageOf isThere isFirst causeAfter faultAt orLater firstFault bodyFault
+unfolding all any agree sameByte spanOf indexOf split toFirst labelByte isLabel isName isStarred isWildcard isPattern blank trimmedLength letterOrDigit nameByte isFieldName hasName utf8Tail utf8Two utf8Three utf8Four printable isText isValue lines lineStart nameOf valueOf isLine isNamed isVersion modeOf isDigit decimalAfter ageOf isThere isFirst causeAfter faultAt orLater firstFault bodyFault
 faults = refl
 
 -- RFC 3629: a euro sign, e acute and an emoji; the euro sign overlong, a surrogate, a code point past 10FFFF, two bytes for a slash, a sequence cut short, a lone tail
@@ -66,5 +66,5 @@ texts = refl
 matched : map (someMatches (patternsOf (text "mx: mail.example.com\r\nmx: *.example.net \nx: *.org")))
     (text "MAIL.example.com" ∷ text "a.example.net" ∷ text "a.b.example.net" ∷ text "example.net" ∷ text "a.org" ∷ text "*.example.net" ∷ [])
     ≡ true ∷ true ∷ false ∷ false ∷ false ∷ false ∷ []
-unfolding all any lowerOf agree sameByte sameLetter spanOf indexOf split toFirst labelByte isLabel isName isStarred isWildcard matchesName blank unblanked lines nameOf valueOf isNamed patterns patternsOf
+unfolding all any lowerOf agree sameByte sameLetter spanOf indexOf split toFirst labelByte isLabel isName isStarred isWildcard matchesName blank trimmedLength lines nameOf valueOf isNamed patterns patternsOf
 matched = refl

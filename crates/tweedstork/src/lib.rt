@@ -3,24 +3,29 @@ ghost use mathlib.Core.Bool.{true};
 ghost use mathlib.Core.Path.{_≡_};
 ghost use lib.ListN.{length};
 ghost use Rattle.lists.specs.Bytes.{isBytes};
+ghost use Rattle.cache.specs.Store.{storeAnswer, tableAfter, textsAfter};
+ghost use Rattle.cache.specs.Lookup.{lookupAnswer};
 ghost use Rattle.hosts.specs.Arguments.{argumentsOf};
 ghost use Rattle.hosts.specs.Demands.{Judged};
 ghost use Rattle.policies.specs.Policy.{policyAnswer};
 ghost use Rattle.txt.specs.Txt.{readTxt, wroteTxt};
 ghost use Rattle.tweedstork.specs.Calls.{nextHostAnswer, version};
+use cache::CacheAnswer;
+use cache::CacheEntry;
 use hosts::HostAnswer;
 use hosts::Numbers;
 use messages::MessageAnswer;
 use messages::MxLookup;
 use policies::PolicyAnswer;
 use txt::TxtAnswer;
+use writing::WriteAnswer;
 
 // The version of the archive; a C program holds it against the header's.
 #[no_mangle]
 pub extern "C" fn tweedstork_version() -> u64
     ensures { λ r. ⌜ r ≡ version ⌝ }
 {
-    10000
+    10100
 }
 
 // Which MTA-STS record do these TXT RDATAs hold, and what is its id?
@@ -154,4 +159,48 @@ pub extern "C" fn tweedstork_next_host(
             position: 0,
         },
     }
+}
+
+// Keeps this domain's policy, with its id and the call's clock as that of the fetch.
+#[no_mangle]
+pub extern "C" fn tweedstork_cache_store<'a, 'b, 'c>(
+    clock: u64,
+    domain: &'a [u8],
+    id: &'a [u8],
+    policy: &'a [u8],
+    table: &'b mut [CacheEntry],
+    texts: &'c mut [u8],
+) -> WriteAnswer
+    ensures { λ r. ⌜ (r ≡ storeAnswer clock (now (domain .entry)) (now (id .entry)) (now (policy .entry)) (now (table .entry)) (now (texts .entry)))
+        × (now (table .exit) ≡ tableAfter clock (now (domain .entry)) (now (id .entry)) (now (policy .entry)) (now (table .entry)) (now (texts .entry)))
+        × (now (texts .exit) ≡ textsAfter clock (now (domain .entry)) (now (id .entry)) (now (policy .entry)) (now (table .entry)) (now (texts .entry))) ⌝ }
+{
+    let n = table.len();
+    let m = texts.len();
+    let start = cache::begin(n, m);
+    let own = cache::scan(true, clock, domain, start, table, texts);
+    let found = cache::scan(false, clock, domain, own, table, texts);
+    let plan = cache::plan_store(clock, domain, id, policy, n, m, found);
+    cache::put(table, plan.place, plan.entry);
+    cache::put_text(plan.place, policy, texts);
+    WriteAnswer {
+        number: plan.number,
+        length: 0,
+    }
+}
+
+// Which live policy does the table hold for this domain?
+#[no_mangle]
+pub extern "C" fn tweedstork_cache_lookup(
+    clock: u64,
+    domain: &[u8],
+    table: &[CacheEntry],
+    texts: &[u8],
+) -> CacheAnswer
+    ensures { λ r. ⌜ r ≡ lookupAnswer clock (now (domain .entry)) (now (table .entry)) (now (texts .entry)) ⌝ }
+{
+    let n = table.len();
+    let start = cache::begin(n, texts.len());
+    let found = cache::scan(true, clock, domain, start, table, texts);
+    cache::lookup_answer(clock, domain, n, texts, found)
 }

@@ -1,0 +1,85 @@
+-- Laws of what is filled up with zeros: names and ids are read back. Assumes nothing.
+use Prim.Native.Nat.{ℕ, zero, suc, _-_, _≤_}
+use mathlib.Core.Path.{_≡_, refl, sym, ap, _∙_}
+use mathlib.Core.Bool.{Bool, true, false, cond, not, _&&_}
+use mathlib.Core.List.{List, [], _∷_, _++_}
+use native.Mathlib.Omega.{arith}
+use lib.Dec.{eqb}
+use lib.ListN.{length, getD, take, drop, length-replicate}
+use lib.Seq.{take-length}
+use borrow.Author.Tests.{le-leb}
+use Rattle.lists.specs.Bytes.{within, all}
+use Rattle.lists.specs.Span.{trimmedLength}
+use Rattle.lists.specs.Split.{split, join, lacks}
+use Rattle.lists.specs.Write.{wroteFront}
+use Rattle.lists.proofs.Bools.{apart, and-left, and-right, and-intro}
+use Rattle.lists.proofs.All.{all-joined, all-more, all-lacks, all-drop}
+use Rattle.lists.proofs.Laws.{within-true}
+use Rattle.lists.proofs.Trim.{trim-gone}
+use Rattle.lists.proofs.Split.{join-split}
+use Rattle.fields.specs.Name.{letterOrDigit}
+use Rattle.names.specs.Name.{labelByte, isLabel, isName}
+use Rattle.names.proofs.Cover.{name-labels}
+use Rattle.txt.specs.Paper.{isId}
+use Rattle.cache.specs.Held.{isZero, zeros, unfilled, filled}
+
+-- a text without zeros has no final zeros
+no-zeros : (s : List ℕ) → lacks 0 s ≡ true → trimmedLength isZero s ≡ length s
+unfolding all trimmedLength isZero
+no-zeros [] h = refl
+no-zeros (b ∷ s) h = go (no-zeros s (and-right (not (eqb b 0)) (lacks 0 s) h)) (eqb b 0) (and-left (not (eqb b 0)) (lacks 0 s) h)
+  where
+    go : trimmedLength isZero s ≡ length s → (t : Bool) → not t ≡ true → cond (t && all isZero s) 0 (suc (trimmedLength isZero s)) ≡ suc (length s)
+    go ih true n = apart n
+    go ih false n = ap suc ih
+
+pub all-zeros : (n : ℕ) → all isZero (zeros n) ≡ true
+unfolding all isZero
+all-zeros zero = refl
+all-zeros (suc n) = all-zeros n
+
+module _ (n : ℕ) (s : List ℕ) (fits : length s ≤ n) (bytes : lacks 0 s ≡ true) where
+  filled-is : filled n s ≡ s ++ drop (length s) (zeros n)
+  unfolding filled wroteFront
+  filled-is = rw (le-leb (length s) (length (zeros n)) (omega (arith, fits, length-replicate {A = ℕ} n 0)))
+
+  -- what was filled up with zeros is read back
+  pub filled-back : unfilled (filled n s) ≡ s
+  filled-back =
+      rw filled-is
+      (trim-gone isZero s (drop (length s) (zeros n)) (all-drop isZero (length s) (zeros n) (all-zeros n)) ∙ (ap (λ (k : ℕ). take k s) (no-zeros s bytes) ∙ take-length s))
+
+-- no byte of pieces and of what joins them
+all-between : (q : ℕ → Bool) (b : ℕ) → q b ≡ true → (ps : List (List ℕ)) → all (all q) ps ≡ true → all q (join b ps) ≡ true
+unfolding all join
+all-between q b g [] h = refl
+all-between q b g (p ∷ []) h = and-left (all q p) true h
+all-between q b g (p ∷ r ∷ ps) h =
+    all-joined q p (b ∷ join b (r ∷ ps)) (and-left (all q p) (all (all q) (r ∷ ps)) h)
+    (and-intro (q b) (all q (join b (r ∷ ps))) g (all-between q b g (r ∷ ps) (and-right (all q p) (all (all q) (r ∷ ps)) h)))
+
+zero-no-label : labelByte 0 ≡ false
+unfolding labelByte
+zero-no-label = refl
+
+zero-no-letter : letterOrDigit 0 ≡ false
+unfolding letterOrDigit
+zero-no-letter = refl
+
+label-lacks : (l : List ℕ) → isLabel l ≡ true → lacks 0 l ≡ true
+unfolding isLabel
+label-lacks l h = all-lacks labelByte 0 zero-no-label l (and-right (within 1 63 (length l) && not (eqb (getD l 0 0) 45) && not (eqb (getD l (length l - 1) 0) 45)) (all labelByte l) h)
+
+-- names and ids have no zero
+pub name-lacks : (d : List ℕ) → isName d ≡ true → lacks 0 d ≡ true
+name-lacks d h =
+    rw (sym (join-split 46 d))
+    (all-between (λ (x : ℕ). not (eqb x 0)) 46 refl (split 46 d) (all-more isLabel (lacks 0) label-lacks (split 46 d) (name-labels d h)))
+
+pub id-lacks : (i : List ℕ) → isId i ≡ true → lacks 0 i ≡ true
+unfolding isId
+id-lacks i h = all-lacks letterOrDigit 0 zero-no-letter i (and-right (within 1 32 (length i)) (all letterOrDigit i) h)
+
+pub id-short : (i : List ℕ) → isId i ≡ true → length i ≤ 32
+unfolding isId
+id-short i h = within-true 1 32 (length i) (and-left (within 1 32 (length i)) (all letterOrDigit i) h) .1

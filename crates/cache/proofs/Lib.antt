@@ -1,0 +1,11 @@
+pub mod Covered
+pub mod Walk
+pub mod Field
+pub mod Pass
+pub mod Fill
+pub mod Stored
+pub mod Scanned
+pub mod Single
+pub mod Steps
+pub mod Independence
+pub mod Shared
