@@ -132,22 +132,26 @@ header_functions() {
         }'
 }
 
-# The structs that the functions name, from the crates that the source takes them from; every field is a u64.
+# The structs that the functions name, from the crates that the source takes them from. A field is a u64 or an array of bytes.
 source_structs() { # source_structs NAMES, a | on either side of each
     grep -ho '^use [a-z_]*::[A-Z][A-Za-z0-9]*;' $source/*.rt | while IFS=' :;' read -r _ crate _ name _; do
         plain_source crates/"$crate"/src/*.rt | awk -v names="$1" -v name="$name" "$shared"'
+            function field(text,   label, type) {
+                label = type = text
+                gsub(/^pub |:.*$/, "", label)
+                sub(/^[^:]*: /, "", type)
+                if (text !~ /^pub [a-z0-9_]+: (u64|\[u8; [0-9]+\])$/)
+                    unknown(c_struct(name), text)
+                return type == "u64" ? "uint64_t " label : "uint8_t " label "[" substr(type, 6)
+            }
             index(names, "|" c_struct(name) "|") == 0 { exit }
             !match($0, "#\\[repr\\(C\\)\\] pub struct " name " [{][^}]*[}]") { complain("no #[repr(C)] pub struct " name " in its crate"); exit }
             {
                 text = substr($0, RSTART, RLENGTH)
                 gsub(/^[^{]*[{]|[}]$/, "", text)
                 fields = pieces(text, ",")
-                for (i = 1; i <= fields; i++) {
-                    if (piece[i] !~ /^pub [a-z0-9_]+: u64$/)
-                        unknown(c_struct(name), piece[i])
-                    gsub(/^pub |:.*$/, "", piece[i])
-                    place(c_struct(name), "field " i, "uint64_t " piece[i])
-                }
+                for (i = 1; i <= fields; i++)
+                    place(c_struct(name), "field " i, field(piece[i]))
             }'
     done
 }
@@ -162,7 +166,7 @@ header_structs() { # header_structs NAMES, a | on either side of each
                 gsub(/^[^{]*[{]|[}];$/, "", text)
                 fields = index(names, "|" name "|") == 0 ? 0 : pieces(text, ";")
                 for (i = 1; i <= fields; i++) {
-                    if (piece[i] !~ /^uint64_t [a-z0-9_]+$/)
+                    if (piece[i] !~ /^(uint64_t [a-z0-9_]+|uint8_t [a-z0-9_]+\[[0-9]+\])$/)
                         unknown(name, piece[i])
                     place(name, "field " i, piece[i])
                 }
