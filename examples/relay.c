@@ -1,8 +1,8 @@
 /*
- * A relay's whole way with a message. It asks which host to try, then what to do with that host; what the library asks for it
- * learns from the network, and asks again, until the library has a verdict. Instead of a network there is a scenario, a text
- * file of what the network would answer (examples/scenarios). A host has one address here; docs/RELAY.md says what to do with
- * several, and with failures of the relay's own.
+ * A relay's whole way with a message. It looks for the domain's policy, in its cache or by a fetch. It asks which host to try,
+ * then what to do with that host; what the library asks for it learns from the network, and asks again, until the library has a
+ * verdict. Instead of a network there is a scenario, a text file of what the network would answer (examples/scenarios). A host
+ * has one address here; docs/RELAY.md says what to do with several, and with failures of the relay's own.
  *
  * Usage: relay SCENARIO ...
  */
@@ -20,20 +20,140 @@ static struct tweedstork_slice slice(const struct scenario_bytes *bytes)
     return slice;
 }
 
+/* Prints an answer of the library and hands it on. */
+static uint64_t answered(uint64_t number)
+{
+    printf("library %" PRIu64 ": %s\n", number, tweedstork_answer_words(number));
+    return number;
+}
+
+/* The scenario has no answer to what the relay needs. */
+static void not_said(const struct scenario_bytes *name)
+{
+    fflush(stdout);
+    fprintf(stderr, "relay: the scenario doesn't say it of %.*s\n", (int)name->length, (const char *)name->bytes);
+    exit(2);
+}
+
+/*
+ * The policies that the relay has fetched. All zeros is an empty cache, so it needs no set-up. A relay with threads has a lock for
+ * it, and copies what it found before another thread may store.
+ */
+static struct tweedstork_cache cache;
+
+/* The policy that a message's hosts are judged by, with the clock of its fetch. */
+struct policy {
+    uint64_t given; /* enum tweedstork_policy_given */
+    struct tweedstork_slice body;
+    uint64_t fetched;
+};
+
+/* The id in the TXT record of the domain, in `output`; empty where there is no such record. */
+static struct tweedstork_slice published_id(const struct scenario_message *m, uint8_t *output, size_t room)
+{
+    struct tweedstork_slice rdatas = slice(&m->txt.joined), lengths = slice(&m->txt.lengths), id = {NULL, 0};
+    struct tweedstork_txt_answer answer =
+        tweedstork_read_txt(rdatas.bytes, rdatas.length, lengths.bytes, lengths.length, output, room);
+
+    printf("network: TXT records: %zu\n", lengths.length / 4);
+    if (answered(answer.number) == TWEEDSTORK_TXT_ACCEPTED) {
+        id.bytes = output + answer.id_start;
+        id.length = (size_t)answer.id_length;
+    }
+    return id;
+}
+
+/* Fetches the policy. Returns 0, and leaves the one at hand, where that fails or brings no policy. */
+static int fetch_policy(const struct scenario_message *m, struct policy *policy)
+{
+    struct tweedstork_slice body = slice(&m->policy);
+
+    if (m->fetch == SCENARIO_FETCH_NOT_SAID)
+        not_said(&m->next_hop);
+    printf("network: policy %s\n", m->fetch == SCENARIO_FETCH_ANSWERED ? "fetched" : "not fetched");
+    if (m->fetch == SCENARIO_FETCH_FAILED
+        || answered(tweedstork_read_policy(body.bytes, body.length).number) != TWEEDSTORK_POLICY_ACCEPTED)
+        return 0;
+    policy->given = TWEEDSTORK_POLICY;
+    policy->body = body;
+    policy->fetched = m->clock;
+    return 1;
+}
+
+/*
+ * Keeps a policy that was just fetched. Where the cache cannot (70, 71), the message still has it; a relay then keeps it by other
+ * means, since whoever can stop the next fetch would otherwise be rid of it.
+ */
+static void keep_policy(const struct scenario_message *m, struct tweedstork_slice id, const struct policy *policy)
+{
+    printf("relay: keeps the policy in the cache, id %.*s\n", (int)id.length, (const char *)id.bytes);
+    answered(tweedstork_cache_store(policy->fetched, m->next_hop.bytes, m->next_hop.length, id.bytes, id.length,
+                                    policy->body.bytes, policy->body.length, cache.table, TWEEDSTORK_CACHE_ENTRIES,
+                                    cache.texts, sizeof cache.texts).number);
+}
+
+/* Looks in the cache. The policy at hand is then the one that is there, if it is live. */
+static struct tweedstork_cache_answer look_in_cache(const struct scenario_message *m, struct policy *policy)
+{
+    struct tweedstork_cache_answer found =
+        tweedstork_cache_lookup(m->clock, m->next_hop.bytes, m->next_hop.length, cache.table, TWEEDSTORK_CACHE_ENTRIES,
+                                cache.texts, sizeof cache.texts);
+
+    printf("relay: looks in the cache\n");
+    if (answered(found.number) == TWEEDSTORK_DONE) {
+        policy->given = TWEEDSTORK_POLICY;
+        policy->body.bytes = cache.texts + found.text_start;
+        policy->body.length = (size_t)found.text_length;
+        policy->fetched = found.fetched;
+    }
+    return found;
+}
+
+/* Does the TXT record announce another policy than the one found, or one where none was found? */
+static int is_new(struct tweedstork_slice id, const struct tweedstork_cache_answer *found)
+{
+    return id.length > 0 && (id.length != found->id_length || memcmp(id.bytes, found->id, id.length) != 0);
+}
+
+/*
+ * The policy from the cache where its id is still the TXT record's; else a new one. Where no new one can be had, the one from the
+ * cache goes on counting while it is live (RFC 8461, 5.1).
+ */
+static struct policy find_policy(const struct scenario_message *m)
+{
+    uint8_t txt[sizeof m->txt.joined.bytes];
+    struct policy policy = {TWEEDSTORK_NO_POLICY, {NULL, 0}, 0};
+    struct tweedstork_cache_answer found = look_in_cache(m, &policy);
+    struct tweedstork_slice id;
+
+    if (found.number != TWEEDSTORK_DONE && found.number != TWEEDSTORK_CACHE_NOT_FOUND)
+        return policy; /* a bad next-hop or clock, which is refused for the host too */
+    id = published_id(m, txt, sizeof txt);
+    if (is_new(id, &found) && fetch_policy(m, &policy))
+        keep_policy(m, id, &policy);
+    else if (found.number == TWEEDSTORK_DONE)
+        printf("relay: policy from the cache, fetched at %" PRIu64 ", id %.*s\n", found.fetched, (int)found.id_length,
+               (const char *)found.id);
+    else
+        printf("relay: no policy\n");
+    return policy;
+}
+
 /* What the relay knows of a host before it asks. Everything else is zero: not learnt yet. */
-static struct tweedstork_host_facts first_facts(const struct scenario *s, const struct scenario_host *host)
+static struct tweedstork_host_facts first_facts(const struct scenario_message *m, const struct policy *policy,
+                                                const struct scenario_host *host)
 {
     struct tweedstork_host_facts facts = {0};
 
-    facts.clock = s->clock;
-    facts.next_hop = slice(&s->next_hop);
-    facts.origin = s->origin;
+    facts.clock = m->clock;
+    facts.next_hop = slice(&m->next_hop);
+    facts.origin = m->origin;
     facts.host = slice(&host->name);
     facts.address = host->address;
     facts.expanded = slice(&host->expanded);
-    facts.policy_given = s->policy_given;
-    facts.policy = slice(&s->policy);
-    facts.fetched = s->fetched;
+    facts.policy_given = policy->given;
+    facts.policy = policy->body;
+    facts.fetched = policy->fetched;
     return facts;
 }
 
@@ -125,20 +245,17 @@ static int says(const struct scenario_host *host, uint64_t question)
  * twice would mean that the relay left its fact zero. Zero, that nobody answered, where the connection is lost: that is no fact
  * about STARTTLS, and a host without a verdict is left out.
  */
-static uint64_t judge(const struct scenario *s, const struct scenario_host *host)
+static uint64_t judge(const struct scenario_message *m, const struct policy *policy, const struct scenario_host *host)
 {
-    struct tweedstork_host_facts facts = first_facts(s, host);
+    struct tweedstork_host_facts facts = first_facts(m, policy, host);
     uint64_t answer = 0, before;
 
     do {
         before = answer;
         answer = tweedstork_judge_facts(&facts).number;
         printf("  library %" PRIu64 ": %s\n", answer, tweedstork_answer_words(answer));
-        if (answer == before || !says(host, answer)) {
-            fflush(stdout);
-            fprintf(stderr, "relay: the scenario doesn't say it of %.*s\n", (int)host->name.length, (const char *)host->name.bytes);
-            exit(2);
-        }
+        if (answer == before || !says(host, answer))
+            not_said(&host->name);
         if (answer == TWEEDSTORK_ASK_STARTTLS && host->lost) {
             printf("  network: the connection is lost\n");
             return 0;
@@ -188,13 +305,13 @@ static int is_theirs(uint64_t refusal)
 }
 
 /* Tries a host and notes what came of it. Returns the verdict or refusal, or zero where there is neither. */
-static uint64_t try_host(const struct scenario *s, struct hosts *hosts, size_t position)
+static uint64_t try_host(const struct scenario_message *m, const struct policy *policy, struct hosts *hosts, size_t position)
 {
     const struct scenario_host *host = hosts->at[position];
     uint64_t answer;
 
     printf(": %.*s\n", (int)host->name.length, (const char *)host->name.bytes);
-    answer = judge(s, host);
+    answer = judge(m, policy, host);
     if (answer == 0 || is_theirs(answer))
         leave_out(hosts, position);
     else
@@ -203,22 +320,22 @@ static uint64_t try_host(const struct scenario *s, struct hosts *hosts, size_t p
 }
 
 /* A message: host after host, until the library names one to deliver to or says to wait. Returns 0 where the relay itself made a mistake. */
-static int deliver(const struct scenario *s)
+static int deliver(const struct scenario_message *m, const struct policy *policy)
 {
-    struct hosts hosts = {{NULL}, {0}, {0}, s->host_count};
+    struct hosts hosts = {{NULL}, {0}, {0}, m->host_count};
     struct tweedstork_message_answer answer;
     uint64_t tried = TWEEDSTORK_NOT_TRIED;
 
     for (size_t i = 0; i < hosts.count; i++) {
-        hosts.at[i] = &s->hosts[i];
-        tweedstork_put_number(hosts.preferences, i, s->hosts[i].preference);
+        hosts.at[i] = &m->hosts[i];
+        tweedstork_put_number(hosts.preferences, i, m->hosts[i].preference);
         tweedstork_put_number(hosts.verdicts, i, TWEEDSTORK_NOT_TRIED);
     }
     do {
-        answer = tweedstork_next_host(s->mx_lookup, hosts.preferences, 4 * hosts.count, hosts.verdicts, 4 * hosts.count);
+        answer = tweedstork_next_host(m->mx_lookup, hosts.preferences, 4 * hosts.count, hosts.verdicts, 4 * hosts.count);
         printf("library %" PRIu64 ": %s", answer.number, tweedstork_answer_words(answer.number));
         if (answer.number == TWEEDSTORK_TRY_HOST)
-            tried = try_host(s, &hosts, (size_t)answer.position);
+            tried = try_host(m, policy, &hosts, (size_t)answer.position);
         if (tried == TWEEDSTORK_BAD_NEXT_HOP) { /* of the recipient's address, and so the same for every host */
             printf("relay: returns the message, since its next-hop is no name\n");
             return 1;
@@ -242,6 +359,23 @@ static int deliver(const struct scenario *s)
     return 1;
 }
 
+/* A scenario's messages one after another, with a cache that is empty at first. Returns 0 where the relay itself made a mistake. */
+static int run(const char *path, const struct scenario *s)
+{
+    memset(&cache, 0, sizeof cache);
+    for (size_t i = 0; i < s->message_count; i++) {
+        const struct scenario_message *m = &s->messages[i];
+        struct policy policy = {m->policy_given, slice(&m->policy), m->fetched};
+
+        printf("%s: a message to %.*s, clock %" PRIu64 "\n", path, (int)m->next_hop.length, (const char *)m->next_hop.bytes, m->clock);
+        if (m->looks_for_policy)
+            policy = find_policy(m);
+        if (!deliver(m, &policy))
+            return 0;
+    }
+    return 1;
+}
+
 int main(int argc, char **argv)
 {
     static struct scenario s;
@@ -257,8 +391,9 @@ int main(int argc, char **argv)
     for (int i = 1; i < argc; i++) {
         if (!scenario_read(argv[i], &s))
             return 2;
-        printf("%s%s: a message to %.*s\n", i > 1 ? "\n" : "", argv[i], (int)s.next_hop.length, (const char *)s.next_hop.bytes);
-        if (!deliver(&s))
+        if (i > 1)
+            printf("\n");
+        if (!run(argv[i], &s))
             return 1;
     }
     return 0;

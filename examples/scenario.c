@@ -16,6 +16,8 @@ static const struct choice yes_no[] = {{"yes", TWEEDSTORK_YES}, {"no", TWEEDSTOR
 
 static const struct choice origins[] = {{"secure", TWEEDSTORK_SECURE_MX}, {"insecure", TWEEDSTORK_INSECURE_MX}, {"none", TWEEDSTORK_NO_MX}, {NULL, 0}};
 
+static const struct choice fetches[] = {{"answered", SCENARIO_FETCH_ANSWERED}, {"failed", SCENARIO_FETCH_FAILED}, {NULL, 0}};
+
 static const struct choice addresses[] = {
     {"secure", TWEEDSTORK_NO_ALIAS_SECURE}, {"insecure", TWEEDSTORK_NO_ALIAS_INSECURE}, {"failed", TWEEDSTORK_ADDRESS_LOOKUP_FAILED},
     {"none", TWEEDSTORK_ADDRESS_ABSENT}, {NULL, 0}};
@@ -138,38 +140,67 @@ static int add_certificate(struct scenario_host *host, const char *path, const c
            host->digests.length == before + 96 + 32 && append(&host->digests, no_digests, 64);
 }
 
-static int begin_host(struct scenario *s, const char *preference, const char *name)
+/* clock NUMBER: a message begins. */
+static int begin_message(struct scenario *s, const char *clock)
+{
+    struct scenario_message *m = &s->messages[s->message_count];
+
+    if (s->message_count == SCENARIO_MESSAGES)
+        return 0;
+    s->message_count++;
+    m->policy_given = TWEEDSTORK_NO_POLICY;
+    return read_number(clock, UINT64_MAX, &m->clock);
+}
+
+/* txt id=ID: the RDATA of the TXT record with this id, one character string; txt none: there is no record. */
+static int add_txt(struct scenario_message *m, const char *field)
+{
+    char rdata[256];
+    int length = snprintf(rdata, sizeof rdata, ".v=STSv1; %s;", field);
+
+    m->looks_for_policy = 1;
+    if (strcmp(field, "none") == 0)
+        return 1;
+    if ((size_t)length >= sizeof rdata)
+        return 0;
+    rdata[0] = (char)(length - 1);
+    return append_part(&m->txt, rdata, (size_t)length);
+}
+
+static int begin_host(struct scenario_message *m, const char *preference, const char *name)
 {
     uint64_t number;
-    struct scenario_host *host = &s->hosts[s->host_count];
+    struct scenario_host *host = &m->hosts[m->host_count];
 
-    if (s->host_count == SCENARIO_HOSTS || !read_number(preference, 65535, &number))
+    if (m->host_count == SCENARIO_HOSTS || !read_number(preference, 65535, &number))
         return 0;
-    s->host_count++;
+    m->host_count++;
     host->preference = (uint32_t)number;
     host->trusted_root = TWEEDSTORK_NO;
     host->common_name_given = TWEEDSTORK_NO;
     return append_text(&host->name, name);
 }
 
-/* A line on the message. */
-static int read_message_line(struct scenario *s, char **words, size_t count)
+/* A line on the message last begun. */
+static int read_message_line(struct scenario_message *m, char **words, size_t count)
 {
     if (count == 3 && strcmp(words[0], "host") == 0)
-        return begin_host(s, words[1], words[2]);
+        return begin_host(m, words[1], words[2]);
     if (count != 2)
         return 0;
-    if (strcmp(words[0], "clock") == 0)
-        return read_number(words[1], UINT64_MAX, &s->clock);
     if (strcmp(words[0], "next-hop") == 0)
-        return append_text(&s->next_hop, words[1]);
+        return append_text(&m->next_hop, words[1]);
     if (strcmp(words[0], "policy-fetched") == 0) {
-        s->policy_given = TWEEDSTORK_POLICY;
-        return read_number(words[1], UINT64_MAX, &s->fetched);
+        m->policy_given = TWEEDSTORK_POLICY;
+        return read_number(words[1], UINT64_MAX, &m->fetched);
     }
+    if (strcmp(words[0], "txt") == 0)
+        return add_txt(m, words[1]);
+    if (strcmp(words[0], "fetch") == 0)
+        return choose(words[1], fetches, &m->fetch);
     if (strcmp(words[0], "mx") == 0) {
-        s->mx_lookup = strcmp(words[1], "failed") == 0 ? TWEEDSTORK_MX_FAILED : TWEEDSTORK_MX_ANSWERED;
-        return s->mx_lookup == TWEEDSTORK_MX_FAILED || choose(words[1], origins, &s->origin);
+        m->mx_lookup = strcmp(words[1], "failed") == 0 ? TWEEDSTORK_MX_FAILED : TWEEDSTORK_MX_ANSWERED;
+        return m->mx_lookup == TWEEDSTORK_MX_FAILED || choose(words[1], origins, &m->origin);
     }
     return 0;
 }
@@ -212,24 +243,36 @@ static int read_host_line(struct scenario_host *host, struct scenario_tlsa **tls
     return 0;
 }
 
+/* Cuts a line into words, up to a comment. Returns how many; one more than the most that a line has is too many. */
+static size_t split(char *text, char **words)
+{
+    size_t count = 0;
+
+    for (char *word = strtok(text, " \t\n"); word != NULL && word[0] != '#' && count <= MOST_WORDS; word = strtok(NULL, " \t\n"))
+        words[count++] = word;
+    return count;
+}
+
 static int read_line(struct scenario *s, struct scenario_tlsa **tlsa, char *text)
 {
     char *words[MOST_WORDS + 1];
-    size_t count = 0, hosts = s->host_count;
     char *at = text + strspn(text, " \t");
+    struct scenario_message *m = s->message_count == 0 ? NULL : &s->messages[s->message_count - 1];
+    size_t count, hosts = m == NULL ? 0 : m->host_count;
 
     if (at[0] == '|') /* a line of the policy, after "| " */
-        return append_text(&s->policy, at[1] == ' ' ? at + 2 : at + 1);
-    for (char *word = strtok(at, " \t\n"); word != NULL && word[0] != '#' && count <= MOST_WORDS; word = strtok(NULL, " \t\n"))
-        words[count++] = word;
+        return m != NULL && append_text(&m->policy, at[1] == ' ' ? at + 2 : at + 1);
+    count = split(at, words);
     if (count == 0)
         return 1;
-    if (read_message_line(s, words, count)) {
-        if (s->host_count > hosts)
+    if (count == 2 && strcmp(words[0], "clock") == 0)
+        return begin_message(s, words[1]);
+    if (m != NULL && read_message_line(m, words, count)) {
+        if (m->host_count > hosts)
             *tlsa = NULL;
         return 1;
     }
-    return hosts > 0 && read_host_line(&s->hosts[hosts - 1], tlsa, words, count);
+    return hosts > 0 && read_host_line(&m->hosts[hosts - 1], tlsa, words, count);
 }
 
 int scenario_read(const char *path, struct scenario *scenario)
@@ -245,13 +288,14 @@ int scenario_read(const char *path, struct scenario *scenario)
         return 0;
     }
     memset(scenario, 0, sizeof *scenario);
-    scenario->policy_given = TWEEDSTORK_NO_POLICY;
     while (good && fgets(text, sizeof text, file) != NULL) {
         number++;
         good = read_line(scenario, &tlsa, text);
     }
+    fclose(file);
     if (!good)
         fprintf(stderr, "%s, line %u: not understood\n", path, number);
-    fclose(file);
-    return good;
+    else if (scenario->message_count == 0)
+        fprintf(stderr, "%s: no message\n", path);
+    return good && scenario->message_count > 0;
 }

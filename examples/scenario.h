@@ -1,6 +1,7 @@
 /*
- * A scenario: what the network would answer to a relay that delivers one message, read from a small text file.
- * The files stand in examples/scenarios; examples/scenarios/dane.txt explains each line.
+ * A scenario: what the network would answer to a relay that delivers a message, or several one after another, read from a small
+ * text file. The files stand in examples/scenarios; dane.txt there explains each line, and cached-policy.txt those by which the
+ * relay looks for a policy.
  */
 #ifndef SCENARIO_H
 #define SCENARIO_H
@@ -8,6 +9,7 @@
 #include "tweedstork.h"
 
 #define SCENARIO_HOSTS 32
+#define SCENARIO_MESSAGES 4
 
 /* Bytes that grow as lines are read. */
 struct scenario_bytes {
@@ -36,11 +38,24 @@ struct scenario_host {
     uint64_t trusted_root, common_name_given;
 };
 
-struct scenario {
-    uint64_t clock, mx_lookup, origin, policy_given, fetched;
-    struct scenario_bytes next_hop, policy;
+/* What comes of fetching a policy. */
+enum scenario_fetch { SCENARIO_FETCH_NOT_SAID, SCENARIO_FETCH_ANSWERED, SCENARIO_FETCH_FAILED };
+
+struct scenario_message {
+    uint64_t clock, mx_lookup, origin;
+    struct scenario_bytes next_hop;
+    uint64_t policy_given, fetched; /* the policy that the relay has from the start */
+    int looks_for_policy;           /* the file says what the TXT lookup gives: the relay looks for the policy itself */
+    struct scenario_parts txt;      /* the RDATAs */
+    uint64_t fetch;                 /* enum scenario_fetch */
+    struct scenario_bytes policy;   /* had from the start, or fetched */
     struct scenario_host hosts[SCENARIO_HOSTS];
     size_t host_count;
+};
+
+struct scenario {
+    struct scenario_message messages[SCENARIO_MESSAGES];
+    size_t message_count;
 };
 
 /* Reads a file. Says on standard error what is wrong with it and returns 0, where something is. */

@@ -19,19 +19,30 @@ expect() { # expect LAST-LINE PROGRAM ARGUMENT..
     fi
 }
 
-# The numbers that the library answers with, one after another, by document 01.
-answers() { # answers FILE NUMBERS
+# The numbers that the library answers with, one after another, by documents 01 and 02.
+answers() { # answers NUMBERS SCENARIO..
+    local want=$1 got
+    shift
+    got=$("$programs/relay" "$@" 2>&1 | grep -o 'library [0-9]*:' | tr -dc '0-9\n' | paste -sd' ') || true
+    if [ "$got" != "$want" ]; then
+        echo "relay $*: expected $want, got $got"
+        failed=1
+    fi
+}
+
+# The lines on which policy each message has.
+policies() { # policies LINES SCENARIO
     local got
-    got=$("$programs/relay" "$1" | grep -o 'library [0-9]*:' | tr -dc '0-9\n' | paste -sd' ') || true
-    if [ "$got" != "$2" ]; then
-        echo "relay $1: expected $2, got $got"
+    got=$("$programs/relay" "$2" 2>&1 | grep -E '^(relay: (keeps the policy|policy from|no policy)|network: policy)' | paste -sd'|') || true
+    if [ "$got" != "$1" ]; then
+        echo "relay $2: expected $1, got $got"
         failed=1
     fi
 }
 
 # Each scenario of examples/scenarios.
 scenario() { # scenario NAME NUMBERS
-    answers "examples/scenarios/$1.txt" "$2"
+    answers "$2" "examples/scenarios/$1.txt"
     scenarios=$((scenarios + 1))
 }
 
@@ -47,6 +58,9 @@ scenario wrong-key '8 13 10 11 12 26 31'
 scenario cleartext '8 10 1 1'
 scenario mx-failed '30'
 scenario connection-lost '8 10 8 10 11 2 2'
+scenario cached-policy '72 6 7 15 8 10 11 12 4 4 15 6 8 10 11 12 4 4'
+scenario policy-renewed '72 6 7 15 8 10 11 12 4 4 15 6 7 15 8 10 11 12 4 4 15 6 8 10 11 12 4 4'
+scenario policy-fetch-failed '72 6 7 15 8 10 11 12 4 4 15 6 8 10 24 31'
 if [ "$scenarios" -ne "$(ls examples/scenarios | wc -l)" ]; then
     echo "examples/scenarios has a file that isn't tested"
     failed=1
@@ -63,7 +77,7 @@ sed -e '/^host/i host 5 mail_.example.com\n address secure' examples/scenarios/d
 expect 'relay: sends the message to mail.example.com, over the TLS connection whose certificate passed' relay "$files/odd"
 printf 'clock 1\nnext-hop example..com\nmx secure\nhost 10 mail.example.com\naddress secure\n' >"$files/hop"
 expect 'relay: returns the message, since its next-hop is no name' relay "$files/hop"
-answers "$files/hop" '8 60'
+answers '8 60' "$files/hop"
 expect 'relay: sends the message to backup.example.com, over TLS, whoever the server is' relay examples/scenarios/connection-lost.txt
 printf 'clock 1\nnext-hop example.com\nmx insecure\nhost 10 mail.example.com\naddress insecure\nconnection lost\n' >"$files/lost"
 expect 'relay: keeps the message and tries again later' relay "$files/lost"
@@ -71,6 +85,48 @@ printf 'clock 253402300800\nnext-hop example.com\nmx insecure\nhost 10 mail.exam
 expect 'relay: keeps the message, since it made a mistake of its own' relay "$files/clock"
 printf 'clock 1\nnext-hop example.com\nmx insecure\nhost 10 mail.example.com\naddress insecure\n' >"$files/silent"
 expect "relay: the scenario doesn't say it of mail.example.com" relay "$files/silent"
+
+# Policies: from the cache while the TXT record's id is the same, and where nothing new can be had (RFC 8461, 3.1 and 5.1).
+kept='network: policy fetched|relay: keeps the policy in the cache, id 20231114'
+cached='relay: policy from the cache, fetched at 1700000000, id 20231114'
+policies "$kept|$cached" examples/scenarios/cached-policy.txt
+policies "$kept|network: policy fetched|relay: keeps the policy in the cache, id 20231115|relay: policy from the cache, fetched at 1700086400, id 20231115" examples/scenarios/policy-renewed.txt
+policies "$kept|network: policy not fetched|$cached" examples/scenarios/policy-fetch-failed.txt
+expect 'relay: keeps the message and tries again later' relay examples/scenarios/policy-fetch-failed.txt
+change() { # change SED-EDIT: of the scenario with the failed fetch, into $files/policy
+    sed "$1" examples/scenarios/policy-fetch-failed.txt >"$files/policy"
+}
+change 's/^txt      id=forged/txt none/'
+policies "$kept|$cached" "$files/policy"
+answers '72 6 7 15 8 10 11 12 4 4 15 40 8 10 24 31' "$files/policy"
+change 's/^txt      id=forged/txt id=20231114a/'
+policies "$kept|network: policy not fetched|$cached" "$files/policy"
+change 's/^fetch    failed/fetch answered\n| version: STSv1/'
+policies "$kept|network: policy fetched|$cached" "$files/policy"
+answers '72 6 7 15 8 10 11 12 4 4 15 6 52 8 10 24 31' "$files/policy"
+change 's/^clock    1700003600/clock 1700604799/'
+policies "$kept|network: policy not fetched|$cached" "$files/policy"
+change 's/^clock    1700003600/clock 1700604800/' # stale, and so none
+policies "$kept|network: policy not fetched|relay: no policy" "$files/policy"
+answers '72 6 7 15 8 10 11 12 4 4 72 6 8 10 1 1' "$files/policy"
+change 's/^fetch    failed//'
+expect "relay: the scenario doesn't say it of example.com" relay "$files/policy"
+change 's/^next-hop.*/next-hop example..com/'
+answers '60 8 60 60 8 60' "$files/policy"
+change 's/^clock .*/clock 253402300800/'
+answers '62 8 62' "$files/policy"
+change "s/^| max_age.*/&\n| note: $(printf '%0600d' 0)\n| note: $(printf '%0500d' 0)/" # over 1,024 bytes: used, and not kept
+answers '72 6 7 71 8 10 11 12 4 4 72 6 8 10 1 1' "$files/policy"
+# Each scenario begins with an empty cache.
+answers '72 6 7 15 8 10 11 12 4 4 15 6 8 10 24 31 72 6 7 15 8 10 11 12 4 4 15 6 8 10 11 12 4 4' examples/scenarios/{policy-fetch-failed,cached-policy}.txt
+printf 'clock %d\n' 1 2 3 4 5 >"$files/many"
+expect "$files/many, line 5: not understood" relay "$files/many"
+printf 'next-hop example.com\nclock 1\n' >"$files/early"
+expect "$files/early, line 1: not understood" relay "$files/early"
+printf '| version: STSv1\nclock 1\n' >"$files/early"
+expect "$files/early, line 1: not understood" relay "$files/early"
+echo '# nothing' >"$files/nothing"
+expect "$files/nothing: no message" relay "$files/nothing"
 
 # RFC 8461, 3.1 and 3.2
 domain=examples/domain
