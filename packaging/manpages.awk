@@ -440,6 +440,19 @@ function is_said(t, said,   tag, count, i) {
     return 0
 }
 
+# Has the struct an array of one that the function takes a slice of? Then it is the memory that is lent to the function.
+function is_lent(t, own,   code, held) {
+    code = type_code[t]
+    while (match(code, /struct [a-z0-9_]+ [a-z0-9_]+\[/)) {
+        held = substr(code, RSTART, RLENGTH)
+        sub(/ [a-z0-9_]+\[$/, " *", held)
+        if (index(parameters[own], held) > 0)
+            return 1
+        code = substr(code, RSTART + RLENGTH)
+    }
+    return 0
+}
+
 # The types that a function names, and those that these name: structs, enums, and last the answer numbers, which are many. A
 # parameter names the enum that is called as it is, but for a number, which may be any.
 function put_types(own,   said, all, count, i, t, is_named, more, begun) {
@@ -451,7 +464,7 @@ function put_types(own,   said, all, count, i, t, is_named, more, begun) {
     do {
         more = 0
         for (t = 1; t <= types; t++)
-            if (!(t in is_named) && is_said(t, said)) {
+            if (!(t in is_named) && (is_said(t, said) || is_lent(t, own))) {
                 is_named[t] = more = 1
                 if (type[t] ~ /^struct/)
                     note_words(type_code[t] " " type_comment[t], said)

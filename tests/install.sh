@@ -50,6 +50,15 @@ prototypes() { # PAGE
     sed -n '/^\.SH SYNOPSIS/,/^\.SH DESCRIPTION/s/^\\fB//p' "$1" | sed -e 's/\\f[BIR]//g' -e 's/\\-/-/g' | tr -d ' \n'
 }
 
+# The structs that a page's prototype names are shown in it.
+check_types() { # NAME
+    local type types
+    types=$(sed -n '/^\.SH SYNOPSIS/,/^\.SH DESCRIPTION/p' "$mans/$1.3" | grep -o 'struct tweedstork_[a-z0-9_]*' | cut -d ' ' -f 2) || true
+    for type in $types; do
+        grep -qx "struct $type {" "$mans/$1.3" || fail "$1(3) does not show struct $type"
+    done
+}
+
 check_pages() {
     local declared overview name page prototype
     declared=$("${CC:-cc}" -E -P "$prefix/include/tweedstork.h" | tr -d ' \t\n')
@@ -64,6 +73,11 @@ check_pages() {
         [[ $overview == *"$prototype"* ]] || fail "tweedstork(3) has not the prototype $prototype"
         sed -n '/^\.SH NAME$/{n;p;n;p}' "$page" | tr '\n' '|' | grep -q "^$name "'\\- [^|][^|]*|\.SH SYNOPSIS|$' ||
             fail "$name(3): its NAME is not '$name - words' on a line"
+        check_types "$name"
+    done
+    # Where a function is lent a table of entries, the struct that holds one is there too.
+    for name in tweedstork_cache_store tweedstork_cache_lookup; do
+        grep -qx 'struct tweedstork_cache {' "$mans/$name.3" || fail "$name(3) does not show struct tweedstork_cache"
     done
     # The comments have come along: of what they tell, each heading is in its page.
     headings=$(grep -cE '^ \* (Before|Takes|Answers|Leaves):' include/tweedstork.h) || fail "the header has no Takes or Answers"

@@ -6,6 +6,7 @@
 #include <stdio.h>
 #include <stdlib.h>
 #include <string.h>
+#include <time.h>
 
 #include <tweedstork.h>
 
@@ -17,6 +18,7 @@ void deliver(uint64_t verdict);
 void go_on(uint64_t verdict);
 void leave_out(void);
 void try_host(const char *domain);
+extern struct tweedstork_cache cache; /* the example's own */
 
 static uint64_t tlsa, starttls, handshake; /* what the network answers */
 static uint64_t lost_at;                   /* the question at which the connection is lost; 0: at none */
@@ -116,6 +118,36 @@ static void expect(const char *wanted, const char *domain)
     }
 }
 
+/* A policy for example.com in the example's cache, live from now on. */
+static void keep_policy(void)
+{
+    static const char domain[] = "example.com", id[] = "1", policy[] = "version: STSv1\nmode: enforce\nmx: example.com\nmax_age: 604800\n";
+    struct tweedstork_write_answer answer = tweedstork_cache_store(
+        (uint64_t)time(NULL), (const uint8_t *)domain, sizeof domain - 1, (const uint8_t *)id, sizeof id - 1, (const uint8_t *)policy,
+        sizeof policy - 1, cache.table, TWEEDSTORK_CACHE_ENTRIES, cache.texts, sizeof cache.texts);
+
+    if (answer.number != TWEEDSTORK_DONE) {
+        printf("manual: the example's cache takes no policy: %d\n", (int)answer.number);
+        failures++;
+    }
+}
+
+/* A server that the network gives no TLSA records of, once STARTTLS is taken out of its greeting and once it shows a certificate. */
+static void under_a_policy(void)
+{
+    tlsa = TWEEDSTORK_TLSA_ABSENT;
+    starttls = TWEEDSTORK_STARTTLS_NOT_OFFERED;
+    forgetful = 0;
+    keep_policy();
+    expect("go on 24", "example.com");
+    expect("deliver 1", "example.net");
+    starttls = TWEEDSTORK_STARTTLS_OFFERED;
+    expect("go on 27", "example.com");
+    expect("deliver 2", "example.net");
+    cache.table[0].fetched = 1; /* stale */
+    expect("deliver 2", "example.com");
+}
+
 int main(void)
 {
     tlsa = TWEEDSTORK_TLSA_SECURE;
@@ -137,5 +169,6 @@ int main(void)
     expect("deliver 1", "example.com");
     forgetful = 1;
     expect("leave out", "example.com");
+    under_a_policy();
     return failures > 0;
 }
