@@ -126,8 +126,11 @@ static struct policy find_policy(const struct scenario_message *m)
     struct tweedstork_cache_answer found = look_in_cache(m, &policy);
     struct tweedstork_slice id;
 
-    if (found.number != TWEEDSTORK_DONE && found.number != TWEEDSTORK_CACHE_NOT_FOUND)
-        return policy; /* a bad next-hop or clock, which is refused for the host too */
+    if (found.number != TWEEDSTORK_DONE && found.number != TWEEDSTORK_CACHE_NOT_FOUND) {
+        /* A bad next-hop is refused for the host too. What else is the relay's mistake: zero is no choice, and refused. */
+        policy.given = found.number == TWEEDSTORK_BAD_NEXT_HOP ? TWEEDSTORK_NO_POLICY : 0;
+        return policy;
+    }
     id = published_id(m, txt, sizeof txt);
     if (is_new(id, &found) && fetch_policy(m, &policy))
         keep_policy(m, id, &policy);

@@ -114,7 +114,8 @@ expect "relay: the scenario doesn't say it of example.com" relay "$files/policy"
 change 's/^next-hop.*/next-hop example..com/'
 answers '60 8 60 60 8 60' "$files/policy"
 change 's/^clock .*/clock 253402300800/'
-answers '62 8 62' "$files/policy"
+answers '62 8 67' "$files/policy" # a lookup that is refused is not "no policy"
+expect 'relay: keeps the message, since it made a mistake of its own' relay "$files/policy"
 change "s/^| max_age.*/&\n| note: $(printf '%0600d' 0)\n| note: $(printf '%0500d' 0)/" # over 1,024 bytes: used, and not kept
 answers '72 6 7 71 8 10 11 12 4 4 72 6 8 10 1 1' "$files/policy"
 # Each scenario begins with an empty cache.
