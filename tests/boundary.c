@@ -1,17 +1,17 @@
 /*
  * The boundary as a C program meets it: layouts, empty slices as NULL, slices that end where their memory ends, and
  * memory left as it was. What each call answers is the proofs' matter, and the cases' of crates/vectors; here a few of
- * document 01's are asked once more through C.
+ * document 01's are asked once more through C. The cache calls are in tests/cache.c.
  */
+#define _DEFAULT_SOURCE /* for memory() of expect.h */
 #include <inttypes.h>
 #include <stdio.h>
-#include <stdlib.h>
 #include <string.h>
 
 #include "expect.h"
 #include "tweedstork.h"
 
-/* A list of numbers in memory of just its size, so that a sanitizer sees any byte read past it. */
+/* A list of numbers in memory of just its size. */
 struct list {
     uint8_t *bytes;
     size_t length;
@@ -22,9 +22,7 @@ static struct list list_of(const uint32_t *numbers, size_t count, size_t left_ov
     struct list list = {NULL, count * 4 + left_over};
     if (list.length == 0)
         return list;
-    list.bytes = malloc(list.length);
-    if (list.bytes == NULL)
-        abort();
+    list.bytes = memory(list.length);
     for (size_t i = 0; i < count; i++)
         tweedstork_put_number(list.bytes, i, numbers[i]);
     memset(list.bytes + count * 4, 0, left_over);
@@ -45,10 +43,6 @@ static void next_host(const char *name, uint64_t mx_lookup, struct list preferen
     expect(name, answer.number == number && answer.position == position);
     expect(name, preferences.length == 0 || memcmp(before[0].bytes, preferences.bytes, preferences.length) == 0);
     expect(name, verdicts.length == 0 || memcmp(before[1].bytes, verdicts.bytes, verdicts.length) == 0);
-    free(before[0].bytes);
-    free(before[1].bytes);
-    free(preferences.bytes);
-    free(verdicts.bytes);
 }
 
 static void message_hosts(void)
@@ -80,9 +74,7 @@ static void message_hosts(void)
 static void read_txt(const char *name, const char *rdatas, size_t rdatas_length, struct list lengths, const char *before, uint64_t number, uint64_t start, uint64_t length, const char *after)
 {
     size_t room = strlen(before);
-    uint8_t *output = room == 0 ? NULL : malloc(room), *wire = rdatas_length == 0 ? NULL : malloc(rdatas_length);
-    if ((room != 0 && output == NULL) || (rdatas_length != 0 && wire == NULL))
-        abort();
+    uint8_t *output = room == 0 ? NULL : memory(room), *wire = rdatas_length == 0 ? NULL : memory(rdatas_length);
     if (room != 0)
         memcpy(output, before, room);
     if (rdatas_length != 0)
@@ -90,9 +82,6 @@ static void read_txt(const char *name, const char *rdatas, size_t rdatas_length,
     struct tweedstork_txt_answer answer = tweedstork_read_txt(wire, rdatas_length, lengths.bytes, lengths.length, output, room);
     expect(name, answer.number == number && answer.id_start == start && answer.id_length == length);
     expect(name, room == 0 || memcmp(output, after, room) == 0);
-    free(output);
-    free(wire);
-    free(lengths.bytes);
 }
 
 static void txt_records(void)
@@ -109,16 +98,13 @@ static void txt_records(void)
 
 static void read_policy(const char *name, const char *body, size_t length, uint64_t number, uint64_t mode, uint64_t lifetime, uint64_t mx_count)
 {
-    uint8_t *bytes = length == 0 ? NULL : malloc(length);
-    if (length != 0 && bytes == NULL)
-        abort();
+    uint8_t *bytes = length == 0 ? NULL : memory(length);
     if (length != 0 && body != NULL)
         memcpy(bytes, body, length);
     else if (length != 0)
         memset(bytes, 'a', length);
     struct tweedstork_policy_answer answer = tweedstork_read_policy(bytes, length);
     expect(name, answer.number == number && answer.mode == mode && answer.lifetime == lifetime && answer.mx_count == mx_count);
-    free(bytes);
 }
 
 static void policies(void)
@@ -136,16 +122,12 @@ static void policies(void)
 static struct tweedstork_host_answer judge(uint64_t clock, const char *host, uint64_t address, uint64_t starttls, uint64_t certificates_given)
 {
     size_t length = strlen(host);
-    uint8_t *name = malloc(length + 1);
-    if (name == NULL)
-        abort();
+    uint8_t *name = memory(length);
     memcpy(name, host, length);
-    struct tweedstork_host_answer answer = tweedstork_judge_host(
+    return tweedstork_judge_host(
         clock, name, length, TWEEDSTORK_NO_MX, name, length, address, NULL, 0, TWEEDSTORK_NO_POLICY, NULL, 0, UINT64_MAX,
         0, UINT64_MAX, NULL, 0, NULL, 0, UINT64_MAX, NULL, 0, NULL, 0, starttls, TWEEDSTORK_HANDSHAKE_NOT_GIVEN, certificates_given,
         NULL, 0, NULL, 0, NULL, 0, NULL, 0, NULL, 0, TWEEDSTORK_NO, NULL, 0, NULL, 0, TWEEDSTORK_NO, NULL, 0);
-    free(name);
-    return answer;
 }
 
 static void judged(const char *name, struct tweedstork_host_answer answer, uint64_t number, uint64_t questions)

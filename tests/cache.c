@@ -3,12 +3,9 @@
  * what both leave as it was. Table, texts and arguments each end where their memory ends. That the calls answer so for every
  * input is the proofs' matter.
  */
-#define _DEFAULT_SOURCE /* for MAP_ANONYMOUS */
+#define _DEFAULT_SOURCE /* for memory() of expect.h */
 #include <stdio.h>
-#include <stdlib.h>
 #include <string.h>
-#include <sys/mman.h>
-#include <unistd.h>
 
 #include "expect.h"
 #include "tweedstork.h"
@@ -21,17 +18,6 @@
 /* Each policy lives for 1,000 seconds. */
 static const char one[] = "version: STSv1\nmode: enforce\nmx: *.example.org\nmx: mail.example.net\nmax_age: 1000\n";
 static const char two[] = "version: STSv1\r\nmode: none\r\nmax_age: 1000";
-
-/* Memory of just this size, all zero. The page behind it cannot be touched: the archive has no sanitizer that would see it. */
-static void *memory(size_t size)
-{
-    size_t page = (size_t)sysconf(_SC_PAGESIZE), room = (size + page - 1) / page * page;
-    uint8_t *start = mmap(NULL, room + page, PROT_READ | PROT_WRITE, MAP_PRIVATE | MAP_ANONYMOUS, -1, 0);
-
-    if (start == MAP_FAILED || mprotect(start + room, page, PROT_NONE) != 0)
-        abort();
-    return start + room - size;
-}
 
 static struct tweedstork_slice text(const char *s)
 {
