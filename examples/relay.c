@@ -82,7 +82,7 @@ static int fetch_policy(const struct scenario_message *m, struct policy *policy)
 
 /*
  * Keeps a policy that was just fetched. Where the cache cannot (70, 71), the message still has it; a relay then keeps it by other
- * means, since whoever can stop the next fetch would otherwise be rid of it.
+ * means, since otherwise stopping the next fetch would switch it off.
  */
 static void keep_policy(const struct scenario_message *m, struct tweedstork_slice id, const struct policy *policy)
 {
@@ -117,7 +117,7 @@ static int is_new(struct tweedstork_slice id, const struct tweedstork_cache_answ
 
 /*
  * The policy from the cache where its id is still the TXT record's; else a new one. Where no new one can be had, the one from the
- * cache goes on counting while it is live (RFC 8461, 5.1).
+ * cache goes on counting while it is live (RFC 8461, 5.1). docs/RELAY.md says when to fetch besides, and how often at most.
  */
 static struct policy find_policy(const struct scenario_message *m)
 {
