@@ -11,5 +11,7 @@ __typeof__(tweedstork_read_txt) independent_read_txt;
 __typeof__(tweedstork_read_policy) independent_read_policy;
 __typeof__(tweedstork_judge_host) independent_judge_host;
 __typeof__(tweedstork_next_host) independent_next_host;
+__typeof__(tweedstork_cache_store) independent_cache_store;
+__typeof__(tweedstork_cache_lookup) independent_cache_lookup;
 
 #endif

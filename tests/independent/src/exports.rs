@@ -1,6 +1,7 @@
 //! C functions over the rules, with the arguments and answers of the library's header and the prefix `independent_`.
 //! They are for the fuzz targets and the benchmark, which link this package's archive beside the library's.
 
+use crate::cache::{self, Entry, LookupAnswer};
 use crate::rules::{self, HostCall, TlsaAnswer};
 
 #[repr(C)]
@@ -27,15 +28,33 @@ pub struct Message {
     pub position: u64,
 }
 
-/// The bytes lent as pointer and length; NULL with length 0 is an empty slice.
+#[repr(C)]
+pub struct Write {
+    pub number: u64,
+    pub length: u64,
+}
+
+/// What is lent as pointer and length; NULL with length 0 is an empty slice.
 ///
 /// # Safety
-/// `at` is NULL with `length` 0, or has `length` bytes that stay as they are during `'a`.
-unsafe fn lent<'a>(at: *const u8, length: usize) -> &'a [u8] {
+/// `at` is NULL with `length` 0, or has `length` bytes (or entries, aligned) that stay as they are during `'a`.
+unsafe fn lent<'a, T>(at: *const T, length: usize) -> &'a [T] {
     if length == 0 {
         &[]
     } else {
         std::slice::from_raw_parts(at, length)
+    }
+}
+
+/// The same for memory that the call may write.
+///
+/// # Safety
+/// As for `lent`, and nothing else reads or writes the memory during `'a`.
+unsafe fn lent_to_write<'a, T>(at: *mut T, length: usize) -> &'a mut [T] {
+    if length == 0 {
+        &mut []
+    } else {
+        std::slice::from_raw_parts_mut(at, length)
     }
 }
 
@@ -47,7 +66,7 @@ pub unsafe extern "C" fn independent_read_txt(
     rdatas: *const u8, rdatas_length: usize,
     lengths: *const u8, lengths_length: usize,
     output: *mut u8, output_length: usize) -> Txt {
-    let output = if output_length == 0 { &mut [] } else { std::slice::from_raw_parts_mut(output, output_length) };
+    let output = lent_to_write(output, output_length);
     let (number, id_start, id_length) = rules::read_txt(lent(rdatas, rdatas_length), lent(lengths, lengths_length), output);
     Txt { number, id_start, id_length }
 }
@@ -137,4 +156,33 @@ pub unsafe extern "C" fn independent_next_host(
     verdicts: *const u8, verdicts_length: usize) -> Message {
     let (number, position) = rules::next_host(mx_lookup, lent(preferences, preferences_length), lent(verdicts, verdicts_length));
     Message { number, position }
+}
+
+/// # Safety
+/// The slices are valid, and table and texts are apart from each other and from the others.
+#[no_mangle]
+#[rustfmt::skip]
+pub unsafe extern "C" fn independent_cache_store(
+    clock: u64,
+    domain: *const u8, domain_length: usize,
+    id: *const u8, id_length: usize,
+    policy: *const u8, policy_length: usize,
+    table: *mut Entry, table_length: usize,
+    texts: *mut u8, texts_length: usize) -> Write {
+    let (number, length) = cache::store(
+        clock, lent(domain, domain_length), lent(id, id_length), lent(policy, policy_length),
+        lent_to_write(table, table_length), lent_to_write(texts, texts_length));
+    Write { number, length }
+}
+
+/// # Safety
+/// The slices are valid.
+#[no_mangle]
+#[rustfmt::skip]
+pub unsafe extern "C" fn independent_cache_lookup(
+    clock: u64,
+    domain: *const u8, domain_length: usize,
+    table: *const Entry, table_length: usize,
+    texts: *const u8, texts_length: usize) -> LookupAnswer {
+    cache::lookup(clock, lent(domain, domain_length), lent(table, table_length), lent(texts, texts_length))
 }

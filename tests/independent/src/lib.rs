@@ -1,4 +1,6 @@
-//! The rules of document 01, written independently of the library, and C functions over them.
+//! The rules of document 01 and those of document 02 that are built, written independently of the library, and C functions over
+//! them.
 
+pub mod cache;
 pub mod exports;
 pub mod rules;

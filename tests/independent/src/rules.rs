@@ -153,11 +153,12 @@ fn id_of(text: &[u8]) -> Option<(usize, usize)> {
     }
     // "At least one field is named `id` (lower case), and the first such has 1 to 32 letters or digits."
     let (at, id) = first_id?;
-    if id.len() <= 32 && id.iter().all(|b| b.is_ascii_alphanumeric()) {
-        Some((at, id.len()))
-    } else {
-        None
-    }
+    is_id(id).then_some((at, id.len()))
+}
+
+/// "1 to 32 letters or digits"
+pub(crate) fn is_id(id: &[u8]) -> bool {
+    (1..=32).contains(&id.len()) && id.iter().all(|b| b.is_ascii_alphanumeric())
 }
 
 // ------------------------------------------------------------------------------------------------------------------- names
@@ -343,7 +344,16 @@ struct CertificateFacts<'a> {
     common_name: Option<&'a [u8]>,
 }
 
-const LAST_CLOCK: u64 = 253_402_300_799;
+/// "A clock reading is seconds since 1970, at most 253,402,300,799"
+pub(crate) fn is_clock(reading: u64) -> bool {
+    reading <= 253_402_300_799
+}
+
+/// "Time left = fetch reading + max_age − present reading, a signed number (...). A policy is live exactly when time left is above
+/// zero."
+pub(crate) fn is_live(fetched: u64, lifetime: u64, present: u64) -> bool {
+    fetched as i128 + lifetime as i128 - present as i128 > 0
+}
 
 pub fn judge_host<B: Deref<Target = [u8]>>(call: &HostCall<B>) -> HostAnswer {
     match judged(call) {
@@ -359,7 +369,7 @@ fn judged<B: Deref<Target = [u8]>>(call: &HostCall<B>) -> Result<HostAnswer, u64
         return Err(67);
     }
     // Reading 4.
-    if call.clock > LAST_CLOCK || (call.policy_given == 1 && call.fetched > LAST_CLOCK) {
+    if !is_clock(call.clock) || (call.policy_given == 1 && !is_clock(call.fetched)) {
         return Err(62);
     }
     if !is_name(&call.next_hop) {
@@ -391,11 +401,7 @@ fn judged<B: Deref<Target = [u8]>>(call: &HostCall<B>) -> Result<HostAnswer, u64
         _ => return Ok((21, 0)),
     };
 
-    // "A policy is live exactly when time left is above zero."
-    let enforced = policy.filter(|p| {
-        let time_left = call.fetched as i128 + p.lifetime as i128 - call.clock as i128;
-        p.mode == 1 && time_left > 0
-    });
+    let enforced = policy.filter(|p| p.mode == 1 && is_live(call.fetched, p.lifetime, call.clock));
     // "23 only under a live enforce policy, when none of its patterns matches the host."
     if let Some(p) = &enforced {
         if !p.patterns.iter().any(|pattern| matches(pattern, &call.host)) {
