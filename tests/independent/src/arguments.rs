@@ -1,5 +1,7 @@
 //! The arguments of a call in words, for the report on a difference.
 
+use crate::caches::{Cache, Call};
+use independent_rules::cache::{Entry, ROOM};
 use independent_rules::rules::HostCall;
 
 fn hex(s: &[u8]) -> String {
@@ -57,4 +59,36 @@ pub fn host(c: &HostCall) -> String {
 
 pub fn message(lookup: u64, preferences: &[u8], verdicts: &[u8]) -> String {
     format!("  mx_lookup {lookup}\n  preferences {}\n  verdicts {}", hex(preferences), hex(verdicts))
+}
+
+/// Long ones are cut.
+fn words(s: &[u8]) -> String {
+    let shown = &s[..s.len().min(300)];
+    let more = if shown.len() < s.len() { " and so on" } else { "" };
+    format!("[{}] \"{}\"{more}", s.len(), shown.escape_ascii())
+}
+
+pub fn cache_call(call: &Call) -> String {
+    match call {
+        Call::Lookup { clock, domain } => format!("lookup clock {clock} domain {}", words(domain)),
+        Call::Store(c) => {
+            format!("store clock {} domain {} id {} policy {}", c.clock, words(&c.domain), words(&c.id), words(&c.policy))
+        }
+    }
+}
+
+/// Zeros at the end of domain and id are left out.
+pub fn entry(e: &Entry) -> String {
+    let part = |field: &[u8]| words(&field[..field.iter().rposition(|&b| b != 0).map_or(0, |last| last + 1)]);
+    format!("domain {} id {} padding {:?} fetched {} length {}", part(&e.domain), part(&e.id), e.padding, e.fetched, e.length)
+}
+
+pub fn cache(cache: &Cache) -> String {
+    let mut out = format!("  {} entries, texts of {} bytes\n", cache.table.len(), cache.texts.len());
+    for (i, e) in cache.table.iter().enumerate() {
+        let text = cache.texts.get(ROOM * i..).unwrap_or(b"");
+        let shown = &text[..text.len().min(e.length.min(ROOM as u64) as usize)];
+        out.push_str(&format!("  {i}: {} text {}\n", entry(e), words(shown)));
+    }
+    out
 }

@@ -1,12 +1,13 @@
-//! The archive's four functions as the C boundary declares them, and safe wrappers.
+//! The archive's functions as the C boundary declares them, and safe wrappers.
 //!
 //! Every slice is lent as a copy, in one of several ways, chosen per call: before a page that can't be touched (reading past the
 //! slice stops the program), after such a page, or in the open, at some offset from a boundary of 16 bytes; an empty one also as
 //! NULL. Other bytes stand beside it, which change from call to call. After the call each copy must still hold what it held, and
-//! what stands beside it too.
+//! what stands beside it too. A cache's table is lent likewise, at offsets from the boundary that keep it aligned to 8.
 
 use crate::random::Random;
-use independent_rules::exports::{Host, Message, Policy, Txt};
+use independent_rules::cache::{Entry, LookupAnswer, StoreAnswer};
+use independent_rules::exports::{Host, Message, Policy, Txt, Write};
 use independent_rules::rules::{HostAnswer, HostCall, MessageAnswer, PolicyAnswer, TxtAnswer};
 use std::cell::Cell;
 use std::ffi::c_void;
@@ -53,6 +54,18 @@ extern "C" {
         mx_lookup: u64,
         preferences: *const u8, preferences_length: usize,
         verdicts: *const u8, verdicts_length: usize) -> Message;
+    fn tweedstork_cache_store(
+        clock: u64,
+        domain: *const u8, domain_length: usize,
+        id: *const u8, id_length: usize,
+        policy: *const u8, policy_length: usize,
+        table: *mut Entry, table_length: usize,
+        texts: *mut u8, texts_length: usize) -> Write;
+    fn tweedstork_cache_lookup(
+        clock: u64,
+        domain: *const u8, domain_length: usize,
+        table: *const Entry, table_length: usize,
+        texts: *const u8, texts_length: usize) -> LookupAnswer;
 }
 
 extern "C" {
@@ -83,12 +96,14 @@ pub fn report_faults() {
 const PAGE: usize = 4096;
 const ROOM: usize = 44 * PAGE;
 const BOUNDARY: usize = 16;
-const SLOTS: usize = 16; // the host call's slices
+const HOST_SLICES: usize = 16;
+const TABLE: usize = HOST_SLICES; // the slot of a cache's table
+const SLOTS: usize = HOST_SLICES + 1;
 
 /// How many bytes beside a slice are set and looked at again.
 const NEAR: usize = 32;
 /// What may stand there, one of them alone or all in turn: bytes that would go on with a text, end it, or spoil it, were they
-/// taken for a part of the slice. They are more than the slots, so that no two slots have the same beside them.
+/// taken for a part of the slice. They are as many as the slots, so that no two slots have the same beside them.
 const BESIDE: &[u8; 17] = b"a0.\n\r \t-*:;=Z~\0\x80\xff";
 
 /// Where the slices of a call are lent.
@@ -159,8 +174,9 @@ impl Lender {
     /// Of a slot: what stands before a slice of this length, the slice, and what stands after it.
     fn parts(&mut self, slot: usize, length: usize, place: Place) -> [&mut [u8]; 3] {
         assert!(length + 2 * NEAR + BOUNDARY <= ROOM, "a slice too long for the lender");
+        let step = if slot == TABLE { std::mem::align_of::<Entry>() } else { 1 };
         let start = match place.side {
-            Side::Open(offset) => NEAR + (offset + place.turn * slot) % BOUNDARY,
+            Side::Open(offset) => NEAR + (offset + place.turn * slot) % BOUNDARY / step * step,
             Side::BeforeGuard => ROOM - length,
             Side::AfterGuard => 0,
         };
@@ -218,12 +234,12 @@ impl Lender {
     }
 
     pub fn judge_host(&mut self, c: &HostCall, place: Place) -> HostAnswer {
-        let slices: [&[u8]; SLOTS] = [
+        let slices: [&[u8]; HOST_SLICES] = [
             &c.next_hop, &c.host, &c.expanded, &c.policy, &c.tlsa[0].lengths, &c.tlsa[0].records, &c.tlsa[1].lengths,
             &c.tlsa[1].records, &c.certificates, &c.certificate_lengths, &c.key_places, &c.digests, &c.paths, &c.dns_ids,
             &c.dns_id_lengths, &c.common_name,
         ];
-        let mut p = [std::ptr::null_mut(); SLOTS];
+        let mut p = [std::ptr::null_mut(); HOST_SLICES];
         for (i, s) in slices.iter().enumerate() {
             p[i] = self.lend(i, s, place);
         }
@@ -254,4 +270,55 @@ impl Lender {
         self.check(1, verdicts, place);
         (a.number, a.position)
     }
+
+    /// Table and texts are copied back.
+    pub fn cache_store(&mut self, c: &StoreCall, table: &mut [Entry], texts: &mut [u8], place: Place) -> StoreAnswer {
+        let slices = [&c.domain[..], &c.id, &c.policy];
+        let [d, i, p] = [0, 1, 2].map(|slot| self.lend(slot, slices[slot], place));
+        let (t, x) = (self.lend(TABLE, bytes_of(table), place) as *mut Entry, self.lend(3, texts, place));
+        // SAFETY: valid slices that don't overlap, the table aligned.
+        #[rustfmt::skip]
+        let a = unsafe {
+            tweedstork_cache_store(
+                c.clock, d, c.domain.len(), i, c.id.len(), p, c.policy.len(), t, table.len(), x, texts.len())
+        };
+        let length = bytes_of(table).len();
+        bytes_of_mut(table).copy_from_slice(self.parts(TABLE, length, place)[1]);
+        texts.copy_from_slice(self.parts(3, texts.len(), place)[1]);
+        self.check(TABLE, bytes_of(table), place);
+        self.check(3, texts, place);
+        (0..3).for_each(|slot| self.check(slot, slices[slot], place));
+        (a.number, a.length)
+    }
+
+    pub fn cache_lookup(&mut self, clock: u64, domain: &[u8], table: &[Entry], texts: &[u8], place: Place) -> LookupAnswer {
+        let slices = [(0, domain), (TABLE, bytes_of(table)), (3, texts)];
+        let [d, t, x] = slices.map(|(slot, s)| self.lend(slot, s, place));
+        // SAFETY: valid slices, the table aligned.
+        let a = unsafe { tweedstork_cache_lookup(clock, d, domain.len(), t as *const Entry, table.len(), x, texts.len()) };
+        slices.iter().for_each(|(slot, s)| self.check(*slot, s, place));
+        a
+    }
 }
+
+/// The arguments of a store, but for table and texts.
+#[derive(Clone, Debug)]
+pub struct StoreCall {
+    pub clock: u64,
+    pub domain: Vec<u8>,
+    pub id: Vec<u8>,
+    pub policy: Vec<u8>,
+}
+
+/// A table as bytes: an entry has no other padding than the one that it names.
+fn bytes_of(table: &[Entry]) -> &[u8] {
+    // SAFETY: the memory of the entries, each byte of which is some field's.
+    unsafe { std::slice::from_raw_parts(table.as_ptr() as *const u8, std::mem::size_of_val(table)) }
+}
+
+fn bytes_of_mut(table: &mut [Entry]) -> &mut [u8] {
+    // SAFETY: as above, and any bytes are an entry.
+    unsafe { std::slice::from_raw_parts_mut(table.as_mut_ptr() as *mut u8, std::mem::size_of_val(table)) }
+}
+
+const _: () = assert!(std::mem::size_of::<Entry>() == 253 + 32 + 3 + 8 + 8);

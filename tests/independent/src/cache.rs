@@ -116,7 +116,7 @@ impl Target {
 }
 
 /// "replaces the domain's own entry (...), else takes an empty one, else one that is stale by then, lowest position first"
-pub fn target(table: &[Entry], texts: &[u8], clock: u64, domain: &[u8]) -> Option<Target> {
+fn target(table: &[Entry], texts: &[u8], clock: u64, domain: &[u8]) -> Option<Target> {
     let entries = table_held(table, texts);
     let empty = || entries.iter().position(|e| e.is_none());
     let stale = || entries.iter().position(|e| e.as_ref().is_some_and(|h| !h.is_live(clock)));
@@ -138,32 +138,44 @@ fn refusal(clock: u64, domain: &[u8], table: &[Entry], texts: &[u8]) -> Option<u
     (!is_name(domain)).then_some(60)
 }
 
-/// "Order: 74, 62, 60, 80, 50 to 52, 71, 70; a refusal changes nothing, a store only its entry and the text's bytes."
-pub fn store(clock: u64, domain: &[u8], id: &[u8], policy: &[u8], table: &mut [Entry], texts: &mut [u8]) -> StoreAnswer {
+/// "Order: 74, 62, 60, 80, 50 to 52, 71, 70; a refusal changes nothing, a store only its entry and the text's bytes." Where the
+/// policy went, or the number of a refusal.
+pub fn stored(clock: u64, domain: &[u8], id: &[u8], policy: &[u8], table: &mut [Entry], texts: &mut [u8]) -> Result<Target, u64> {
     if let Some(number) = refusal(clock, domain, table, texts) {
-        return (number, 0);
+        return Err(number);
     }
     // "80 when the id isn't 1 to 32 letters or digits"
     if !is_id(id) {
-        return (80, 0);
+        return Err(80);
     }
     let (number, ..) = read_policy(policy);
     if number != 7 {
-        return (number, 0);
+        return Err(number);
     }
     // "71 when the text is over 1,024 bytes"
     if policy.len() > ROOM {
-        return (71, 0);
+        return Err(71);
     }
     // "70 exactly when no such entry exists"
-    let Some(target) = target(table, texts, clock, domain) else { return (70, 0) };
+    let target = target(table, texts, clock, domain).ok_or(70u64)?;
     // "Storing takes the call's clock as fetch reading". Reading 7: the domain as spelled, and only the text's own bytes.
     let i = target.position();
     let padding = table[i].padding;
     table[i] = Entry { domain: filled_up(domain), id: filled_up(id), padding, fetched: clock, length: policy.len() as u64 };
     texts[ROOM * i..ROOM * i + policy.len()].copy_from_slice(policy);
-    // "answers 15 and the length it wrote to its output, 0 where it has none (as here)"
-    (15, 0)
+    Ok(target)
+}
+
+/// "A new call that succeeds answers 15 and the length it wrote to its output, 0 where it has none (as here)".
+pub fn store_answer(stored: Result<Target, u64>) -> StoreAnswer {
+    match stored {
+        Ok(_) => (15, 0),
+        Err(number) => (number, 0),
+    }
+}
+
+pub fn store(clock: u64, domain: &[u8], id: &[u8], policy: &[u8], table: &mut [Entry], texts: &mut [u8]) -> StoreAnswer {
+    store_answer(stored(clock, domain, id, policy, table, texts))
 }
 
 /// "Looking up (74, 62, 60 first) hands back the live policy's text as a part of the lent buffer, with id and fetch reading, or 72."

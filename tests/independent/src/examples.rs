@@ -1,8 +1,10 @@
-//! Document 01's "Cases on both sides" and a few more, with their answers written down: they hold the rules here and the library
-//! to the paper itself, not only to each other.
+//! Document 01's "Cases on both sides" and a few more, and cases of document 02, with their answers written down: they hold the
+//! rules here and the library to the papers themselves, not only to each other.
 
-use crate::boundary::{Lender, Place, Side};
+use crate::boundary::{Lender, Place, Side, StoreCall};
+use crate::caches::Cache;
 use crate::inputs::list;
+use independent_rules::cache::{self, Entry, LookupAnswer, ROOM};
 use independent_rules::rules::{self, HostCall, TlsaAnswer};
 
 const MIDDLE: Place = Place { side: Side::Open(0), turn: 0 };
@@ -53,6 +55,45 @@ impl Check<'_> {
         let theirs = self.lender.next_host(1, &p, &v, BEFORE_GUARD);
         self.same("message", wanted, ours, theirs);
     }
+
+    /// Stores with the id `clock`'s digits. Wanted is the position, or the refusal; the cache becomes what the library made of it,
+    /// but for padding.
+    fn store(&mut self, cache: &mut Cache, clock: u64, domain: &str, policy: &[u8], wanted: Result<usize, u64>) {
+        let id = clock.to_string().into_bytes();
+        let call = StoreCall { clock, domain: domain.as_bytes().to_vec(), id: id.clone(), policy: policy.to_vec() };
+        let (mut ours, mut theirs, mut expected) = (cache.clone(), cache.clone(), cache.clone());
+        let a = cache::store(clock, &call.domain, &id, policy, &mut ours.table, &mut ours.texts);
+        let b = self.lender.cache_store(&call, &mut theirs.table, &mut theirs.texts, BEFORE_GUARD);
+        if let Ok(i) = wanted {
+            let entry = &mut expected.table[i];
+            *entry = Entry { fetched: clock, length: policy.len() as u64, ..Entry::ZERO };
+            entry.domain[..domain.len()].copy_from_slice(domain.as_bytes());
+            entry.id[..id.len()].copy_from_slice(&id);
+            expected.texts[ROOM * i..][..policy.len()].copy_from_slice(policy);
+        }
+        theirs.table.iter_mut().for_each(|e| e.padding = [0; 3]);
+        let what = format!("store for {domain} at {clock}");
+        self.same(&what, (wanted.map_or_else(|number| number, |_| 15), 0), a, b);
+        self.same(&what, true, ours == expected, theirs == expected);
+        *cache = theirs;
+    }
+
+    /// Wanted is the position, the fetch reading and the text's length, or the refusal.
+    fn lookup(&mut self, cache: &Cache, clock: u64, domain: &str, wanted: Result<(usize, u64, usize), u64>) {
+        let ours = cache::lookup(clock, domain.as_bytes(), &cache.table, &cache.texts);
+        let theirs = self.lender.cache_lookup(clock, domain.as_bytes(), &cache.table, &cache.texts, MIDDLE);
+        let mut expected = LookupAnswer::default();
+        match wanted {
+            Err(number) => expected.number = number,
+            Ok((i, fetched, length)) => {
+                let id = fetched.to_string().into_bytes();
+                (expected.number, expected.text_start, expected.text_length) = (15, 1024 * i as u64, length as u64);
+                (expected.fetched, expected.id_length) = (fetched, id.len() as u64);
+                expected.id[..id.len()].copy_from_slice(&id);
+            }
+        }
+        self.same(&format!("lookup of {domain} at {clock}"), expected, ours, theirs);
+    }
 }
 
 pub fn one_record(record: &[u8]) -> TlsaAnswer {
@@ -74,8 +115,59 @@ pub fn plain() -> HostCall {
     }
 }
 
+/// Document 02, No. 1.
+fn cached(c: &mut Check) {
+    let policy = b"version: STSv1\nmode: enforce\nmx: *.example.com\nmax_age: 604800\n";
+    let (short, shorter) = (b"version: STSv1\nmode: none\nmax_age: 10\n", b"version: STSv1\nmode: none\nmax_age: 9");
+    let mut cache = Cache::zero();
+    c.lookup(&cache, 0, "example.com", Err(72));
+    c.store(&mut cache, 1000, "Example.com", policy, Ok(0));
+    c.lookup(&cache, 605_799, "eXample.COM", Ok((0, 1000, policy.len())));
+    c.lookup(&cache, 605_800, "example.com", Err(72));
+    // "A clock before the fetch leaves it live (house)."
+    c.lookup(&cache, 0, "example.com", Ok((0, 1000, policy.len())));
+    c.lookup(&cache, 0, "www.example.com", Err(72));
+    // The own entry before an empty one, also where it is stale; the new spelling, and only the text's own bytes.
+    c.store(&mut cache, 605_801, "example.COM", shorter, Ok(0));
+    c.store(&mut cache, 605_802, "example.org", short, Ok(1));
+    c.lookup(&cache, 605_809, "example.com", Ok((0, 605_801, shorter.len())));
+    c.lookup(&cache, 605_810, "example.com", Err(72));
+    // Refusals change nothing.
+    c.store(&mut cache, 1, "example.com.", policy, Err(60));
+    c.store(&mut cache, 253_402_300_800, "", b"", Err(62));
+    c.store(&mut cache, 1, "example.com", b"", Err(51));
+    let long = |size: usize| [&policy[..], b"x:", &vec![b'y'; size - policy.len() - 2]].concat();
+    c.store(&mut cache, 1, "example.com", &long(1025), Err(71));
+    // Full with live ones: 70. Then one is stale, and is taken after one that counts as empty.
+    for i in 2..64 {
+        c.store(&mut cache, 605_803, &format!("d{i}"), &long(1024), Ok(i));
+    }
+    c.store(&mut cache, 605_809, "example.net", policy, Err(70));
+    c.store(&mut cache, 605_809, "D63", policy, Ok(63));
+    cache.table[40].length = 1025;
+    c.lookup(&cache, 605_809, "d40", Err(72));
+    c.store(&mut cache, 605_812, "example.net", policy, Ok(40));
+    c.store(&mut cache, 605_812, "example.edu", policy, Ok(0));
+    c.store(&mut cache, 605_811, "example.info", policy, Err(70));
+    c.store(&mut cache, 605_812, "example.info", policy, Ok(1));
+    // Of several own entries the lowest counts: a stale one hides a live one.
+    (cache.table[7], cache.table[9]) = (cache.table[63], cache.table[63]);
+    cache.texts[ROOM * 7..][..short.len()].copy_from_slice(short);
+    (cache.table[7].length, cache.texts[ROOM * 9]) = (short.len() as u64, 0);
+    c.lookup(&cache, 605_818, "d63", Ok((7, 605_809, short.len())));
+    c.lookup(&cache, 605_819, "d63", Err(72));
+    // One that counts as empty is not own.
+    cache.table[7].id[6] = b'-';
+    c.lookup(&cache, 605_819, "d63", Ok((63, 605_809, policy.len())));
+    // Other sizes.
+    cache.table.pop();
+    c.lookup(&cache, u64::MAX, "", Err(74));
+    c.store(&mut cache, u64::MAX, "", b"", Err(74));
+}
+
 pub fn run(lender: &mut Lender) -> u64 {
     let mut c = Check { lender, passed: 0 };
+    cached(&mut c);
     c.txt("v=STSv1; id=20160831085700Z;", (6, 12, 15));
     c.txt("v=STSv1; id=20160831085700Z", (6, 12, 15));
     c.txt("v=STSv1; id=20160831085700Z; ;", (42, 0, 0));

@@ -16,7 +16,7 @@ pub const EDGES: &[u8] = b"\0\x01\t\n\r\x1f !\"*+,-./09:;<=>?@AZ[\\_`az{|~\x7f\x
 
 pub const LETTERS: &[u8] = b"abcdefghijklmnopqrstuvwxyzABCDEFGHIJKLMNOPQRSTUVWXYZ0123456789";
 
-fn letters(r: &mut Random, n: usize) -> Vec<u8> {
+pub fn letters(r: &mut Random, n: usize) -> Vec<u8> {
     (0..n).map(|_| *r.pick(LETTERS)).collect()
 }
 
@@ -50,7 +50,7 @@ fn label(r: &mut Random, n: usize) -> Vec<u8> {
 }
 
 /// A name of exactly this many bytes (1 or more), with labels of 63 where it goes.
-fn name_of_length(r: &mut Random, total: usize) -> Vec<u8> {
+pub fn name_of_length(r: &mut Random, total: usize) -> Vec<u8> {
     let mut s = Vec::new();
     loop {
         let left = total - s.len();
@@ -135,7 +135,7 @@ pub fn bad_name(r: &mut Random, good: &[u8]) -> Vec<u8> {
     s
 }
 
-fn other_case(r: &mut Random, s: &[u8]) -> Vec<u8> {
+pub fn other_case(r: &mut Random, s: &[u8]) -> Vec<u8> {
     let every = r.once_in(2);
     s.iter().map(|b| if b.is_ascii_alphabetic() && (every || r.once_in(3)) { b ^ 0x20 } else { *b }).collect()
 }
@@ -563,7 +563,7 @@ fn policy_body(r: &mut Random, patterns: &[Vec<u8>], mode: &[u8], age: &[u8], cl
 }
 
 /// Padded with an extension line (or several) to an exact size.
-fn padded(r: &mut Random, body: &mut Vec<u8>, size: usize) {
+pub fn padded(r: &mut Random, body: &mut Vec<u8>, size: usize) {
     if !body.ends_with(b"\n") {
         body.push(b'\n');
     }
@@ -613,7 +613,7 @@ pub fn policy(r: &mut Random) -> Vec<u8> {
 
 // --------------------------------------------------------------------------------------------------------------------- host
 
-const LAST_CLOCK: u64 = 253_402_300_799;
+pub const LAST_CLOCK: u64 = 253_402_300_799;
 
 struct Chain {
     certificates: Vec<Vec<u8>>,

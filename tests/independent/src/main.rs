@@ -1,13 +1,16 @@
-//! Differential tests: the library's C boundary against an independent writing of document 01's rules.
+//! Differential tests: the library's C boundary against an independent writing of the rules of documents 01 and 02.
 //!
-//! independent [CASES [SEED]]: CASES inputs for each call (2,500,000 unless given; environment INDEPENDENT_CASES), from SEED
-//! (environment INDEPENDENT_SEED). INDEPENDENT_ONLY=CALL:CASE runs a single case (CALL: txt, policy, host, message, lengths) and
-//! prints it, with what both answer.
+//! independent [CASES [SEED]]: CASES inputs for each call (2,500,000 unless given; environment INDEPENDENT_CASES), fewer for the
+//! cache, from SEED (environment INDEPENDENT_SEED). INDEPENDENT_ONLY=CALL:CASE runs a single case (CALL: txt, policy, host, message,
+//! lengths, cache, histories) and prints it, with what both answer.
 
 mod arguments;
 mod boundary;
+mod caches;
+mod claims;
 mod completions;
 mod examples;
+mod histories;
 mod inputs;
 mod lengths;
 mod random;
@@ -115,7 +118,11 @@ fn main() {
             lengths::run(&mut lender, Some(case));
             return;
         }
-        let call = CALLS.iter().position(|c| *c == call).expect("a call: txt, policy, host, message or lengths");
+        if histories::is_part(call) {
+            histories::run_only(&mut lender, seed, call, case);
+            return;
+        }
+        let call = CALLS.iter().position(|c| *c == call).expect("a call: txt, policy, host, message, lengths, cache or histories");
         report(seed, call, case, &run_case(&mut lender, seed, call, case));
         return;
     }
@@ -132,6 +139,9 @@ fn main() {
             println!("  answer {number:2}: {count}");
         }
     }
+    // A cache's case takes a hundred times as long as another. So few that an answer never comes would test nothing.
+    passed += histories::run(&mut lender, seed, (cases / 25).max(5_000), (cases / 1_000).max(100));
+    passed += claims::run(&mut lender, seed, (cases / 5_000).max(300));
     let begun = Instant::now();
     let mut table = Table::new();
     let some = cases / 4;
@@ -161,8 +171,9 @@ fn main() {
                     for call in 0..CALLS.len() {
                         run(&mut lender, seed.wrapping_add(t), call, block * 100..(block + 1) * 100, &mut Table::new());
                     }
+                    histories::run_one(&mut lender, seed.wrapping_add(t), block);
                 }
-                each / 100 * 100 * CALLS.len() as u64
+                each / 100 * (100 * CALLS.len() as u64 + 1)
             })
         })
         .collect();
