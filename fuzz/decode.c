@@ -132,7 +132,7 @@ static void put_escaped(struct bytes *to, uint8_t first, struct text *rest)
 
 uint64_t take_size(struct text *rest)
 {
-    static const uint64_t limits[] = {4096, 16384, 65536};
+    static const uint64_t limits[] = {1024, 4096, 16384, 65536};
     enum { SMALL = 600, NEAR = 2 };
     uint64_t size = take_number(rest);
     for (size_t i = 0; i < sizeof limits / sizeof limits[0]; i++)

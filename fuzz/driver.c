@@ -5,7 +5,8 @@
  * The library's archive is compiled without sanitizers, so it is asked four times: with copies on the heap of just their
  * size (the address sanitizer sees what memcpy does there, and empty slices are NULL), with copies that end at a page which
  * can't be touched, with copies that begin after one, and with copies in the open, at offsets from a boundary of 16 bytes that
- * the input decides. On an open side stand other bytes, by the input too, which must be there after the call.
+ * the input decides. On an open side stand other bytes, by the input too, which must be there after the call. Of a history each
+ * call is asked in one of the four ways, by the input and in turn.
  *
  * FUZZ_SAY=1 in the environment prints the arguments and the answer of each input.
  */
@@ -36,17 +37,12 @@ static uint64_t answered[256];      /* how often each answer number came */
 static uint32_t turn;               /* decides the offsets, and what stands beside the slices */
 static int say;
 
-static size_t length_of(const char *const *names)
-{
-    size_t length = 0;
-    while (names[length] != NULL)
-        length++;
-    return length;
-}
-
 static int is_output(size_t slice)
 {
-    return target.output != NULL && strcmp(target.slices[slice], target.output) == 0;
+    for (size_t i = 0; target.outputs[i] != NULL; i++)
+        if (strcmp(target.slices[slice], target.outputs[i]) == 0)
+            return 1;
+    return 0;
 }
 
 /* ------------------------------------------------------------------------------------------------------------- reports */
@@ -123,8 +119,9 @@ static uint32_t turn_of(const uint8_t *data, size_t size)
 /* Where slice i begins in its room. */
 static uint8_t *start_of(size_t i, size_t length, int place)
 {
+    size_t step = target.aligned != NULL && strcmp(target.slices[i], target.aligned) == 0 ? 8 : 1;
     if (place == OPEN)
-        return rooms[i] + NEAR + (turn + turn / BOUNDARY * i) % BOUNDARY;
+        return rooms[i] + NEAR + (turn + turn / BOUNDARY * i) % BOUNDARY / step * step;
     return place == BEFORE_GUARD ? rooms[i] + ROOM - length : rooms[i];
 }
 
@@ -172,32 +169,66 @@ static int same_beside(size_t i, const struct bytes *lent, int place)
 
 /* ------------------------------------------------------------------------------------------------------------ the calls */
 
-/* Every slice as it has to be after the call: an input as it was, the output as the independent implementation left it. */
-static void check_slices(const struct call *call, const struct call *lent, const struct bytes *output, int place)
+/* Every slice as it has to be after the call: an input as it was, an output as the independent implementation left it. */
+static void check_slices(const struct call *call, const struct call *lent, const struct call *left, int place)
 {
     for (size_t i = 0; target.slices[i] != NULL; i++) {
-        if (!same(&lent->slices[i], is_output(i) ? output : &call->slices[i]))
+        if (!same(&lent->slices[i], is_output(i) ? &left->slices[i] : &call->slices[i]))
             fail(call, target.slices[i], is_output(i) ? "differs after the call" : "was changed by the call", place);
         if (place != HEAP && !same_beside(i, &lent->slices[i], place))
             fail(call, target.slices[i], "had a byte beside it changed by the call", place);
     }
 }
 
-static void ask_library(const struct call *call, const uint64_t *expected, const struct bytes *output, int place)
+static struct call lend_all(const struct call *call, int place)
 {
     struct call lent = *call;
-    uint64_t fields[MOST_FIELDS] = {0};
     for (size_t i = 0; target.slices[i] != NULL; i++)
         lent.slices[i] = lend(i, &call->slices[i], place);
+    return lent;
+}
+
+static void free_all(const struct call *lent)
+{
+    for (size_t i = 0; target.slices[i] != NULL; i++)
+        free(lent->slices[i].at);
+}
+
+static void ask_library(const struct call *call, const uint64_t *expected, const struct call *left, int place)
+{
+    struct call lent = lend_all(call, place);
+    uint64_t fields[MOST_FIELDS] = {0};
     target.ask(0, &lent, fields);
     if (memcmp(fields, expected, sizeof fields) != 0) {
         print_fields("independent", expected);
         print_fields("library", fields);
         fail(call, "the answer", "differs", place);
     }
-    check_slices(call, &lent, output, place);
-    for (size_t i = 0; place == HEAP && target.slices[i] != NULL; i++)
-        free(lent.slices[i].at);
+    check_slices(call, &lent, left, place);
+    if (place == HEAP)
+        free_all(&lent);
+}
+
+/* One call, asked in all places from the first to the last; its outputs become what was written. */
+static void ask_both(const struct call *call, int first, int last)
+{
+    struct call lent = lend_all(call, HEAP);
+    uint64_t expected[MOST_FIELDS] = {0};
+    if (say)
+        print_call(call);
+    target.ask(1, &lent, expected);
+    check_slices(call, &lent, &lent, HEAP);
+    if (say)
+        print_fields("independent", expected);
+    if (expected[0] == 0 || expected[0] > 0xff || strchr((const char *)target.answers, (int)expected[0]) == NULL)
+        fail(call, "the independent answer", "is none that the call has", HEAP);
+    for (int place = first; place <= last; place++)
+        ask_library(call, expected, &lent, place);
+    for (size_t i = 0; target.slices[i] != NULL; i++)
+        if (is_output(i) && lent.slices[i].length > 0)
+            memcpy(call->slices[i].at, lent.slices[i].at, lent.slices[i].length);
+    free_all(&lent);
+    answered[expected[0]]++;
 }
 
 int LLVMFuzzerInitialize(int *argc, char ***argv)
@@ -212,33 +243,18 @@ int LLVMFuzzerInitialize(int *argc, char ***argv)
 int LLVMFuzzerTestOneInput(const uint8_t *data, size_t size)
 {
     struct call call = {{0}, {{NULL, 0}}};
-    struct bytes output = {NULL, 0};
-    uint64_t expected[MOST_FIELDS] = {0};
-
     for (size_t i = 0; i < MOST_SLICES; i++)
         call.slices[i].at = decoded[i];
     target.decode((struct text){data, size}, &call);
     turn = turn_of(data, size);
-    if (say)
-        print_call(&call);
-
-    struct call lent = call;
-    size_t count = length_of(target.slices);
-    for (size_t i = 0; i < count; i++) {
-        lent.slices[i] = lend(i, &call.slices[i], HEAP);
-        if (is_output(i))
-            output = lent.slices[i];
+    if (target.next == NULL) {
+        ask_both(&call, HEAP, PLACES - 1);
+        return 0;
     }
-    target.ask(1, &lent, expected);
-    check_slices(&call, &lent, &output, HEAP);
-    if (say)
-        print_fields("independent", expected);
-    if (expected[0] == 0 || expected[0] > 0xff || strchr((const char *)target.answers, (int)expected[0]) == NULL)
-        fail(&call, "the independent answer", "is none that the call has", HEAP);
-    for (int place = 0; place < PLACES; place++)
-        ask_library(&call, expected, &output, place);
-    for (size_t i = 0; i < count; i++)
-        free(lent.slices[i].at);
-    answered[expected[0]]++;
+    int place = (int)(turn % PLACES);
+    do {
+        ask_both(&call, place, place);
+        place = (place + 1) % PLACES;
+    } while (target.next(&call));
     return 0;
 }

@@ -35,6 +35,7 @@ enum {
 static const char *const numbers[] = {
     "clock", "origin", "address", "policy_given", "fetched", "tlsa_answers", "tlsa1_result", "tlsa2_result", "starttls",
     "handshake", "certificates_given", "trusted_root", "common_name_given", NULL};
+static const char *const outputs[] = {NULL};
 static const char *const fields[] = {"number", "tlsa_questions", NULL};
 static const uint8_t answers[] = {1,  2,  3,  4,  5,  10, 11, 12, 13, 14, 20, 21, 22, 23, 24, 25,
                                   26, 27, 50, 51, 52, 60, 61, 62, 64, 65, 66, 67, 0};
@@ -240,4 +241,4 @@ static void ask(int independent, const struct call *call, uint64_t *answer)
     answer[1] = a.tlsa_questions;
 }
 
-const struct target target = {"host", answers, numbers, slices, fields, NULL, decode, ask};
+const struct target target = {"host", answers, numbers, slices, fields, outputs, NULL, decode, NULL, ask};

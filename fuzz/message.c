@@ -9,6 +9,7 @@
 enum { PREFERENCES, VERDICTS, SLICES };
 static const char *const slices[] = {"preferences", "verdicts", NULL};
 static const char *const numbers[] = {"mx_lookup", NULL};
+static const char *const outputs[] = {NULL};
 static const char *const fields[] = {"number", "position", NULL};
 static const uint8_t answers[] = {1, 2, 3, 4, 5, 8, 30, 31, 63, 67, 0};
 
@@ -43,4 +44,4 @@ static void ask(int independent, const struct call *call, uint64_t *answer)
     answer[1] = a.position;
 }
 
-const struct target target = {"message", answers, numbers, slices, fields, NULL, decode, ask};
+const struct target target = {"message", answers, numbers, slices, fields, outputs, NULL, decode, NULL, ask};

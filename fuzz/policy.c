@@ -2,6 +2,7 @@
 #include "target.h"
 
 static const char *const slices[] = {"body", NULL};
+static const char *const outputs[] = {NULL};
 static const char *const numbers[] = {NULL};
 static const char *const fields[] = {"number", "mode", "lifetime", "mx_count", NULL};
 static const uint8_t answers[] = {7, 50, 51, 52, 0};
@@ -21,4 +22,4 @@ static void ask(int independent, const struct call *call, uint64_t *answer)
     answer[3] = a.mx_count;
 }
 
-const struct target target = {"policy", answers, numbers, slices, fields, NULL, decode, ask};
+const struct target target = {"policy", answers, numbers, slices, fields, outputs, NULL, decode, NULL, ask};

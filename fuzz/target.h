@@ -1,7 +1,8 @@
 /*
- * What a fuzz target is: a call of the library, how an input becomes its arguments, and how it is asked.
- * driver.c holds each answer of the library against the independent implementation's; txt.c, policy.c, host.c and message.c
- * each define `target`.
+ * What a fuzz target is: a call of the library, how an input becomes its arguments, and how it is asked. An input may also be
+ * a history of calls, each on the memory that the last one left.
+ * driver.c holds each answer of the library against the independent implementation's; txt.c, policy.c, host.c, message.c and
+ * cache.c each define `target`.
  */
 #ifndef TARGET_H
 #define TARGET_H
@@ -9,7 +10,7 @@
 #include "decode.h"
 #include "independent.h"
 
-enum { MOST_SLICES = 16, MOST_NUMBERS = 13, MOST_FIELDS = 4 };
+enum { MOST_SLICES = 16, MOST_NUMBERS = 13, MOST_FIELDS = 10 };
 
 /* The arguments: the numbers and the slices, each in the order of the header. */
 struct call {
@@ -23,8 +24,10 @@ struct target {
     const char *const *numbers;         /* the arguments' names, ended by NULL */
     const char *const *slices;
     const char *const *fields;          /* the names of the answer's fields, ended by NULL */
-    const char *output;                 /* the slice that the call may write, or NULL */
+    const char *const *outputs;         /* the slices that the call may write, ended by NULL */
+    const char *aligned;                /* the slice that has to be aligned to 8, or NULL */
     void (*decode)(struct text input, struct call *call);
+    int (*next)(struct call *call);     /* the next call of a history, 0 at its end; NULL where an input is one call */
     void (*ask)(int independent, const struct call *call, uint64_t *fields);
 };
 

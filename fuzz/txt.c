@@ -8,6 +8,7 @@
 
 enum { RDATAS, LENGTHS, OUTPUT, SLICES };
 static const char *const slices[] = {"rdatas", "lengths", "output", NULL};
+static const char *const outputs[] = {"output", NULL};
 static const char *const numbers[] = {NULL};
 static const char *const fields[] = {"number", "id_start", "id_length", NULL};
 static const uint8_t answers[] = {6, 40, 41, 42, 43, 44, 0};
@@ -78,4 +79,4 @@ static void ask(int independent, const struct call *call, uint64_t *answer)
     answer[2] = a.id_length;
 }
 
-const struct target target = {"txt", answers, numbers, slices, fields, "output", decode, ask};
+const struct target target = {"txt", answers, numbers, slices, fields, outputs, NULL, decode, NULL, ask};
