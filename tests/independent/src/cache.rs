@@ -178,7 +178,8 @@ pub fn store(clock: u64, domain: &[u8], id: &[u8], policy: &[u8], table: &mut [E
     store_answer(stored(clock, domain, id, policy, table, texts))
 }
 
-/// "Looking up (74, 62, 60 first) hands back the live policy's text as a part of the lent buffer, with id and fetch reading, or 72."
+/// "Looking up (74, 62, 60 first) hands back the live policy's text as a part of the lent buffer, with id and fetch reading, or
+/// 72."
 pub fn lookup(clock: u64, domain: &[u8], table: &[Entry], texts: &[u8]) -> LookupAnswer {
     let refused = |number| LookupAnswer { number, ..Default::default() };
     if let Some(number) = refusal(clock, domain, table, texts) {

@@ -109,7 +109,7 @@ impl Pool {
     }
 }
 
-/// Another name that is near this one; it isn't equal but by chance.
+/// A name that is near this one and, but by chance, another.
 fn near(r: &mut Random, name: &[u8]) -> Vec<u8> {
     let mut s = name.to_vec();
     match r.below(5) {
@@ -131,14 +131,21 @@ fn spelled(r: &mut Random, s: &[u8]) -> Vec<u8> {
     if r.once_in(2) { other_case(r, s) } else { s.to_vec() }
 }
 
+/// Often one of two, so that a store meets its own id again.
 pub fn id(r: &mut Random) -> Vec<u8> {
+    if r.once_in(3) {
+        return r.pick(&[&b"20160831085700Z"[..], b"abcdefghijklmnopqrstuvwxyz012345"]).to_vec();
+    }
     let n = if r.once_in(4) { *r.pick(&[1, 31, 32]) } else { r.between(1, 20) };
     letters(r, n)
 }
 
-/// An accepted policy of at most 1,024 bytes, mostly short.
+/// An accepted policy of at most 1,024 bytes, mostly short, and often the same.
 pub fn text(r: &mut Random, pool: &Pool) -> Text {
     let &(age, lifetime) = r.pick(pool.ages);
+    if r.once_in(4) {
+        return Text { body: format!("version: STSv1\nmode: none\nmax_age: {age}\n").into_bytes(), lifetime };
+    }
     let end = if r.once_in(4) { "\r\n" } else { "\n" };
     let mode = *r.pick(&["mode: none", "mode:enforce\nmx: *.example.com", "mode: testing\nmx:a.b"]);
     let mut lines = [String::from("version: STSv1"), String::from(mode), format!("max_age: {age}")];

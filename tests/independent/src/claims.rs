@@ -103,7 +103,10 @@ fn call_for(r: &mut Random, pool: &Pool, clock: u64, domain: &[u8]) -> Call {
 
 /// Clocks that never go back, from the pool's on. Where there are many domains, half of the clocks are the first.
 fn clocks(r: &mut Random, pool: &Pool, count: usize, most: u64, many: bool) -> Vec<u64> {
-    let mut later: Vec<u64> = (0..count).map(|_| if many && r.once_in(2) { 0 } else { r.below(most as usize + 1) as u64 }).collect();
+    let mut later: Vec<u64> = Vec::new();
+    for _ in 0..count {
+        later.push(if many && r.once_in(2) { 0 } else { r.below(most as usize + 1) as u64 });
+    }
     later.sort();
     later.into_iter().map(|later| (pool.clock + later).min(LAST_CLOCK)).collect()
 }
