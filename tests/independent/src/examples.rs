@@ -115,50 +115,61 @@ pub fn plain() -> HostCall {
     }
 }
 
-/// Document 02, No. 1.
-fn cached(c: &mut Check) {
-    let policy = b"version: STSv1\nmode: enforce\nmx: *.example.com\nmax_age: 604800\n";
-    let (short, shorter) = (b"version: STSv1\nmode: none\nmax_age: 10\n", b"version: STSv1\nmode: none\nmax_age: 9");
+const WEEK: &[u8] = b"version: STSv1\nmode: enforce\nmx: *.example.com\nmax_age: 604800\n";
+const SHORT: &[u8] = b"version: STSv1\nmode: none\nmax_age: 10\n";
+const SHORTER: &[u8] = b"version: STSv1\nmode: none\nmax_age: 9";
+
+/// A policy of a week in so many bytes.
+fn long(size: usize) -> Vec<u8> {
+    [WEEK, b"x:", &vec![b'y'; size - WEEK.len() - 2]].concat()
+}
+
+/// Document 02, No. 1: a cache from all zeros.
+fn cached(c: &mut Check) -> Cache {
     let mut cache = Cache::zero();
     c.lookup(&cache, 0, "example.com", Err(72));
-    c.store(&mut cache, 1000, "Example.com", policy, Ok(0));
-    c.lookup(&cache, 605_799, "eXample.COM", Ok((0, 1000, policy.len())));
+    c.store(&mut cache, 1000, "Example.com", WEEK, Ok(0));
+    c.lookup(&cache, 605_799, "eXample.COM", Ok((0, 1000, WEEK.len())));
     c.lookup(&cache, 605_800, "example.com", Err(72));
     // "A clock before the fetch leaves it live (house)."
-    c.lookup(&cache, 0, "example.com", Ok((0, 1000, policy.len())));
+    c.lookup(&cache, 0, "example.com", Ok((0, 1000, WEEK.len())));
     c.lookup(&cache, 0, "www.example.com", Err(72));
     // The own entry before an empty one, also where it is stale; the new spelling, and only the text's own bytes.
-    c.store(&mut cache, 605_801, "example.COM", shorter, Ok(0));
-    c.store(&mut cache, 605_802, "example.org", short, Ok(1));
-    c.lookup(&cache, 605_809, "example.com", Ok((0, 605_801, shorter.len())));
+    c.store(&mut cache, 605_801, "example.COM", SHORTER, Ok(0));
+    c.store(&mut cache, 605_802, "example.org", SHORT, Ok(1));
+    c.lookup(&cache, 605_809, "example.com", Ok((0, 605_801, SHORTER.len())));
     c.lookup(&cache, 605_810, "example.com", Err(72));
     // Refusals change nothing.
-    c.store(&mut cache, 1, "example.com.", policy, Err(60));
+    c.store(&mut cache, 1, "example.com.", WEEK, Err(60));
     c.store(&mut cache, 253_402_300_800, "", b"", Err(62));
     c.store(&mut cache, 1, "example.com", b"", Err(51));
-    let long = |size: usize| [&policy[..], b"x:", &vec![b'y'; size - policy.len() - 2]].concat();
     c.store(&mut cache, 1, "example.com", &long(1025), Err(71));
-    // Full with live ones: 70. Then one is stale, and is taken after one that counts as empty.
+    cache
+}
+
+/// The same, filled up.
+fn cached_in_a_full_table(c: &mut Check, mut cache: Cache) {
     for i in 2..64 {
         c.store(&mut cache, 605_803, &format!("d{i}"), &long(1024), Ok(i));
     }
-    c.store(&mut cache, 605_809, "example.net", policy, Err(70));
-    c.store(&mut cache, 605_809, "D63", policy, Ok(63));
+    // All are live: 70. Then one is stale, and is taken after one that counts as empty.
+    c.store(&mut cache, 605_809, "example.net", WEEK, Err(70));
+    c.store(&mut cache, 605_809, "D63", WEEK, Ok(63));
     cache.table[40].length = 1025;
     c.lookup(&cache, 605_809, "d40", Err(72));
-    c.store(&mut cache, 605_812, "example.net", policy, Ok(40));
-    c.store(&mut cache, 605_812, "example.edu", policy, Ok(0));
-    c.store(&mut cache, 605_811, "example.info", policy, Err(70));
-    c.store(&mut cache, 605_812, "example.info", policy, Ok(1));
+    c.store(&mut cache, 605_812, "example.net", WEEK, Ok(40));
+    c.store(&mut cache, 605_812, "example.edu", WEEK, Ok(0));
+    c.store(&mut cache, 605_811, "example.info", WEEK, Err(70));
+    c.store(&mut cache, 605_812, "example.info", WEEK, Ok(1));
     // Of several own entries the lowest counts: a stale one hides a live one.
     (cache.table[7], cache.table[9]) = (cache.table[63], cache.table[63]);
-    cache.texts[ROOM * 7..][..short.len()].copy_from_slice(short);
-    (cache.table[7].length, cache.texts[ROOM * 9]) = (short.len() as u64, 0);
-    c.lookup(&cache, 605_818, "d63", Ok((7, 605_809, short.len())));
+    cache.texts[ROOM * 7..][..SHORT.len()].copy_from_slice(SHORT);
+    (cache.table[7].length, cache.texts[ROOM * 9]) = (SHORT.len() as u64, 0);
+    c.lookup(&cache, 605_818, "d63", Ok((7, 605_809, SHORT.len())));
     c.lookup(&cache, 605_819, "d63", Err(72));
     // One that counts as empty is not own.
     cache.table[7].id[6] = b'-';
-    c.lookup(&cache, 605_819, "d63", Ok((63, 605_809, policy.len())));
+    c.lookup(&cache, 605_819, "d63", Ok((63, 605_809, WEEK.len())));
     // Other sizes.
     cache.table.pop();
     c.lookup(&cache, u64::MAX, "", Err(74));
@@ -167,7 +178,8 @@ fn cached(c: &mut Check) {
 
 pub fn run(lender: &mut Lender) -> u64 {
     let mut c = Check { lender, passed: 0 };
-    cached(&mut c);
+    let cache = cached(&mut c);
+    cached_in_a_full_table(&mut c, cache);
     c.txt("v=STSv1; id=20160831085700Z;", (6, 12, 15));
     c.txt("v=STSv1; id=20160831085700Z", (6, 12, 15));
     c.txt("v=STSv1; id=20160831085700Z; ;", (42, 0, 0));
