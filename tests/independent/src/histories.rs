@@ -153,11 +153,11 @@ fn single(lender: &mut Lender, r: &mut Random, say: bool, counts: &mut Counts) -
 /// Calls on one table, mostly from an empty one, with clocks that mostly rise; between them entries are damaged.
 fn history(lender: &mut Lender, r: &mut Random, say: bool, counts: &mut Counts) -> Result<(), String> {
     let (many, lasting) = (r.once_in(3), r.once_in(2));
-    let domains = if many { r.between(60, 80) } else { r.between(2, 8) };
+    let domains = if many { r.between(66, 90) } else { r.between(2, 8) };
     let mut pool = Pool::new(r, domains, lasting);
     let mut cache = if r.once_in(3) { caches::cache(r, &pool) } else { Cache::zero() };
     let damages = r.once_in(2);
-    for step in 0..if many { 160 } else { 40 } {
+    for step in 0..if many { 200 } else { 40 } {
         let far = *r.pick(&[0, 0, 0, 1, 1, 50, 99, 100, 101, if many { 2 } else { 31_557_600 }]);
         pool.clock = (pool.clock + far).min(LAST_CLOCK);
         if r.once_in(40) {

@@ -140,7 +140,7 @@ fn main() {
         }
     }
     // A cache's case takes a hundred times as long as another. So few that an answer never comes would test nothing.
-    passed += histories::run(&mut lender, seed, (cases / 25).max(5_000), (cases / 1_000).max(100));
+    passed += histories::run(&mut lender, seed, (cases / 25).max(5_000), (cases / 1_000).max(400));
     passed += claims::run(&mut lender, seed, (cases / 5_000).max(300));
     let begun = Instant::now();
     let mut table = Table::new();
