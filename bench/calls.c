@@ -8,9 +8,9 @@
 #include "plain.h"
 
 const struct implementation implementations[IMPLEMENTATIONS] = {
-    {"library", tweedstork_read_txt, tweedstork_read_policy, tweedstork_judge_host, tweedstork_next_host},
-    {"C", plain_read_txt, plain_read_policy, plain_judge_host, plain_next_host},
-    {"Rust", independent_read_txt, independent_read_policy, independent_judge_host, independent_next_host},
+    {"library", tweedstork_read_txt, tweedstork_read_policy, tweedstork_cache_store, tweedstork_cache_lookup, tweedstork_judge_host, tweedstork_next_host},
+    {"C", plain_read_txt, plain_read_policy, plain_cache_store, plain_cache_lookup, plain_judge_host, plain_next_host},
+    {"Rust", independent_read_txt, independent_read_policy, independent_cache_store, independent_cache_lookup, independent_judge_host, independent_next_host},
 };
 
 static struct answer call_judge_host(const struct implementation *implementation, const struct facts *f)
@@ -26,7 +26,31 @@ static struct answer call_judge_host(const struct implementation *implementation
         f->dns_ids.at, f->dns_ids.length, f->dns_id_lengths.at, f->dns_id_lengths.length,
         f->common_name_given, f->common_name.at, f->common_name.length);
 
-    return (struct answer){{a.number, a.tlsa_questions, 0, 0}};
+    return (struct answer){{a.number, a.tlsa_questions}};
+}
+
+/* What a store writes is put back first: every call has the same work, and what callgrind counts begins after this. */
+static struct answer call_cache_store(const struct implementation *implementation, const struct cache_call *c)
+{
+    size_t start = TWEEDSTORK_CACHE_TEXT_ROOM * c->place;
+
+    memcpy(&c->lent->table[c->place], &c->before->table[c->place], sizeof c->lent->table[0]);
+    memcpy(c->lent->texts + start, c->before->texts + start, c->policy.length);
+    struct tweedstork_write_answer a = implementation->cache_store(
+        c->clock, c->domain.at, c->domain.length, c->id.at, c->id.length, c->policy.at, c->policy.length,
+        c->lent->table, TWEEDSTORK_CACHE_ENTRIES, c->lent->texts, sizeof c->lent->texts);
+
+    return (struct answer){{a.number, a.length}};
+}
+
+static struct answer call_cache_lookup(const struct implementation *implementation, const struct cache_call *c)
+{
+    struct tweedstork_cache_answer a = implementation->cache_lookup(
+        c->clock, c->domain.at, c->domain.length, c->lent->table, TWEEDSTORK_CACHE_ENTRIES, c->lent->texts, sizeof c->lent->texts);
+    struct answer answer = {{a.number, a.length, a.text_start, a.text_length, a.fetched, a.id_length}};
+
+    memcpy(answer.fields + 6, a.id, sizeof a.id);
+    return answer;
 }
 
 struct answer make_call(const struct implementation *implementation, const struct input *input, size_t step)
@@ -36,7 +60,7 @@ struct answer make_call(const struct implementation *implementation, const struc
     switch (input->call) {
     case READ_TXT: {
         struct tweedstork_txt_answer a = implementation->read_txt(first.at, first.length, second.at, second.length, output.at, output.length);
-        return (struct answer){{a.number, a.id_start, a.id_length, 0}};
+        return (struct answer){{a.number, a.id_start, a.id_length}};
     }
     case READ_POLICY: {
         struct tweedstork_policy_answer a = implementation->read_policy(first.at, first.length);
@@ -44,12 +68,15 @@ struct answer make_call(const struct implementation *implementation, const struc
     }
     case NEXT_HOST: {
         struct tweedstork_message_answer a = implementation->next_host(TWEEDSTORK_MX_ANSWERED, first.at, first.length, second.at, second.length);
-        return (struct answer){{a.number, a.position, 0, 0}};
+        return (struct answer){{a.number, a.position}};
     }
-    case JUDGE_HOST:
-        break;
+    case CACHE_STORE:
+        return call_cache_store(implementation, &input->cache);
+    case CACHE_LOOKUP:
+        return call_cache_lookup(implementation, &input->cache);
+    default:
+        return call_judge_host(implementation, &input->facts[step]);
     }
-    return call_judge_host(implementation, &input->facts[step]);
 }
 
 uint64_t make_calls(const struct implementation *implementation, const struct input *input)
@@ -61,21 +88,50 @@ uint64_t make_calls(const struct implementation *implementation, const struct in
     return sum;
 }
 
-static int check_call(const struct implementation *implementation, const struct input *input, size_t step)
+/* Fills what the call may write to with what it does not write, or with what must stand there before the call. */
+static void prepare(const struct input *input)
 {
-    const uint64_t *expected = input->expected[step].fields;
-
     if (input->output.length != 0)
         memset(input->output.at, '.', input->output.length);
+    if (input->cache.lent != NULL)
+        memcpy(input->cache.lent, input->cache.before, sizeof *input->cache.lent);
+}
+
+/* Does the lent cache hold what it must after the call? The padding of the entry that a store writes may be anything. */
+static int check_cache(const struct cache_call *c, int is_store)
+{
+    struct tweedstork_cache_entry *entry = &c->lent->table[c->place];
+    size_t start = offsetof(struct tweedstork_cache_entry, id) + sizeof entry->id, end = offsetof(struct tweedstork_cache_entry, fetched);
+
+    if (is_store)
+        memcpy((uint8_t *)entry + start, (const uint8_t *)&c->after->table[c->place] + start, end - start);
+    return memcmp(c->lent, c->after, sizeof *c->lent) == 0;
+}
+
+static void print_answer(const char *which, const struct answer *answer)
+{
+    fprintf(stderr, ", %s", which);
+    for (size_t i = 0; i < sizeof answer->fields / sizeof answer->fields[0]; i++)
+        fprintf(stderr, " %" PRIu64, answer->fields[i]);
+}
+
+static int check_call(const struct implementation *implementation, const struct input *input, size_t step)
+{
+    const struct answer *expected = &input->expected[step];
+
+    prepare(input);
     struct answer got = make_call(implementation, input, step);
-    int same = memcmp(got.fields, expected, sizeof got.fields) == 0;
+    int same = memcmp(got.fields, expected->fields, sizeof got.fields) == 0;
     if (input->text.length != 0 && memcmp(input->output.at, input->text.at, input->text.length) != 0)
         same = 0;
-    if (!same)
-        fprintf(stderr, "bench: %s, \"%s\" (table %d), call %zu: expected %" PRIu64 " %" PRIu64 " %" PRIu64 " %" PRIu64
-                ", got %" PRIu64 " %" PRIu64 " %" PRIu64 " %" PRIu64 ", or another text in the output\n",
-                implementation->name, input->name, (int)input->table, step, expected[0], expected[1], expected[2], expected[3],
-                got.fields[0], got.fields[1], got.fields[2], got.fields[3]);
+    if (input->cache.lent != NULL && !check_cache(&input->cache, input->call == CACHE_STORE))
+        same = 0;
+    if (!same) {
+        fprintf(stderr, "bench: %s, \"%s\" (table %d), call %zu", implementation->name, input->name, (int)input->table, step);
+        print_answer("expected", expected);
+        print_answer("got", &got);
+        fprintf(stderr, ", or something else in the memory that it writes to\n");
+    }
     return same;
 }
 

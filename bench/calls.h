@@ -9,6 +9,8 @@ struct implementation {
     const char *name;
     __typeof__(tweedstork_read_txt) *read_txt;
     __typeof__(tweedstork_read_policy) *read_policy;
+    __typeof__(tweedstork_cache_store) *cache_store;
+    __typeof__(tweedstork_cache_lookup) *cache_lookup;
     __typeof__(tweedstork_judge_host) *judge_host;
     __typeof__(tweedstork_next_host) *next_host;
 };
@@ -17,7 +19,7 @@ enum { LIBRARY, PLAIN_C, RUST, IMPLEMENTATIONS };
 
 extern const struct implementation implementations[IMPLEMENTATIONS];
 
-/* Makes the call, or that step of a decision's calls. */
+/* Makes the call, or that step of a decision's calls. Before a store the memory is put back to where every store of the input starts from. */
 struct answer make_call(const struct implementation *implementation, const struct input *input, size_t step);
 
 /* Makes all calls of the input; the sum of the answer numbers. */

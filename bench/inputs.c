@@ -180,6 +180,151 @@ static void add_policies(struct inputs *inputs)
         make_mx_policy(add_counted(inputs, POLICY_BYTES, READ_POLICY, size), size);
 }
 
+/* ---- a cache of policies ---- */
+
+/* Domains as a payment company's merchants have them, in the order in which their policies came in. */
+static const char *const merchants[] = {
+    "harbour-books.example.com", "shop-03.example.net", "teahouse.example", "acme-tools.example.org", "velo.example.net", "shop-11.example.net",
+    "flowers.north.example.com", "quarry.example", "blue-heron-wines.example.com", "shop-01.example.net", "maple-furniture.example", "ink.example.org",
+    "coffee-02.example.com", "granary.example.net", "old-town-cinema.example.org", "shop-08.example.net", "d.example", "coffee-01.example.com",
+    "winterwear.example.net", "lantern.example.com", "opticians.example.org", "shop-02.example.net", "rye-and-salt.example.com", "jewels.example",
+    "flowers.south.example.com", "bakery.example.org", "bakery.example.com", "umbrella-hire.example.net", "shop-06.example.net", "keys24.example.com",
+    "sailcloth.example", "paper-mill.example.org", "coffee-03.example.com", "yarn.example.net", "shop-10.example.net", "northern-lights.example.com",
+    "zoo-tickets.example.org", "ceramics.example", "harbour-cafe.example.com", "shop-04.example.net", "eastside-pharmacy.example", "globe.example.com",
+    "print-and-copy.example.net", "shop-07.example.net", "fishmarket.example.org", "vinyl.example.com", "tulip.example.net", "islandferry.example.com",
+    "shop-05.example.net", "mountain-huts.example.org", "oak-tables.example.com", "nuts-and-bolts.example", "xylophone.example.net", "pay.a12.example.com",
+    "pay.a13.example.com", "shop-09.example.net", "radio.example.org", "brass-band.example.com", "schoolbags.example", "umbra-lamps.example.net",
+    "coffee-04.example.com", "lakeside-camping.example", "acme-toys.example.org", "shop-12.example.net"};
+
+enum {
+    ENTRIES = TWEEDSTORK_CACHE_ENTRIES, TEXT_ROOM = TWEEDSTORK_CACHE_TEXT_ROOM, NOWHERE = ENTRIES, HOUR = 3600,
+    EVERY_MERCHANT = 1 / (sizeof merchants / sizeof merchants[0] == ENTRIES)
+};
+static const uint64_t cache_clock = 1700000000;
+
+/* A policy of 63 to 120 bytes, of one of three kinds. */
+static struct bytes policy_of(struct bytes domain, size_t kind)
+{
+    static const char *const forms[] = {"version: STSv1\nmode: enforce\nmx: mail.%.*s\nmax_age: 604800\n",
+        "version: STSv1\nmode: enforce\nmx: mx1.%.*s\nmx: mx2.%.*s\nmax_age: 604800\n",
+        "version: STSv1\r\nmode: testing\r\nmax_age: 604800\r\nmx: *.%.*s\r\n"};
+    char body[256];
+
+    snprintf(body, sizeof body, forms[kind % 3], (int)domain.length, (const char *)domain.at, (int)domain.length, (const char *)domain.at);
+    return text(body);
+}
+
+static struct bytes id_of(size_t i)
+{
+    char id[32];
+
+    snprintf(id, sizeof id, i % 2 == 0 ? "20231101%06zuZ" : "16987%zu", i);
+    return text(id);
+}
+
+static struct tweedstork_cache *copy_of(const struct tweedstork_cache *cache)
+{
+    return memcpy(take(sizeof *cache), cache, sizeof *cache);
+}
+
+static void put_field(uint8_t *field, size_t size, struct bytes content)
+{
+    memset(field, 0, size);
+    memcpy(field, content.at, content.length);
+}
+
+/* Writes an entry as a store does. */
+static void put_entry(struct tweedstork_cache *cache, size_t place, uint64_t fetched, struct bytes domain, struct bytes id, struct bytes policy)
+{
+    struct tweedstork_cache_entry *entry = &cache->table[place];
+
+    put_field(entry->domain, sizeof entry->domain, domain);
+    put_field(entry->id, sizeof entry->id, id);
+    entry->fetched = fetched;
+    entry->length = policy.length;
+    memcpy(cache->texts + TEXT_ROOM * place, policy.at, policy.length);
+}
+
+/* Every entry is live, an hour older than the one before. What no entry and no text takes up is not zero, so that a byte too many is seen. */
+static struct tweedstork_cache *full_cache(const struct bytes domains[ENTRIES])
+{
+    struct tweedstork_cache *cache = take(sizeof *cache);
+
+    memset(cache, '.', sizeof *cache);
+    for (size_t i = 0; i < ENTRIES; i++)
+        put_entry(cache, i, cache_clock - HOUR * (i + 1), domains[i], id_of(i), policy_of(domains[i], i));
+    return cache;
+}
+
+static struct input *add_cache_call(struct inputs *inputs, enum call call, const char *name, const char *mark, const struct tweedstork_cache *before, struct bytes domain)
+{
+    char marked[80];
+
+    snprintf(marked, sizeof marked, "%s%s", name, mark);
+    struct input *input = add(inputs, CACHE, call, marked);
+    input->cache = (struct cache_call){cache_clock, domain, {NULL, 0}, {NULL, 0}, copy_of(before), before, before, 0};
+    return input;
+}
+
+/* Finds the entry at that place. */
+static void add_lookup(struct inputs *inputs, const char *name, const char *mark, const struct tweedstork_cache *before, struct bytes domain, size_t place)
+{
+    struct input *input = add_cache_call(inputs, CACHE_LOOKUP, name, mark, before, domain);
+
+    if (place == NOWHERE) {
+        expect(input, 0, TWEEDSTORK_CACHE_NOT_FOUND, 0, 0, 0);
+        return;
+    }
+    expect(input, 0, TWEEDSTORK_DONE, 0, TEXT_ROOM * place, before->table[place].length);
+    input->expected[0].fields[4] = before->table[place].fetched;
+    input->expected[0].fields[5] = id_of(place).length;
+    memcpy(input->expected[0].fields + 6, before->table[place].id, sizeof before->table[place].id);
+}
+
+/* Writes the entry at that place. */
+static void add_store(struct inputs *inputs, const char *name, const char *mark, const struct tweedstork_cache *before, struct bytes domain, size_t place)
+{
+    struct input *input = add_cache_call(inputs, CACHE_STORE, name, mark, before, domain);
+    struct tweedstork_cache *after = copy_of(before);
+
+    input->cache.id = text("20231114221320Z");
+    input->cache.policy = policy_of(domain, place + 1);
+    put_entry(after, place, cache_clock, domain, input->cache.id, input->cache.policy);
+    input->cache.after = after;
+    input->cache.place = place;
+    expect(input, 0, TWEEDSTORK_DONE, 0, 0, 0);
+}
+
+static void add_cache_calls(struct inputs *inputs, const char *mark, const struct bytes domains[ENTRIES], struct bytes absent)
+{
+    enum { LAST = ENTRIES - 1 };
+    struct tweedstork_cache *full = full_cache(domains), *last_stale = copy_of(full);
+
+    last_stale->table[LAST].fetched = cache_clock - MAX_AGE;
+    add_lookup(inputs, "lookup, the first of 64 entries", mark, full, domains[0], 0);
+    add_lookup(inputs, "lookup, the last of 64 entries", mark, full, domains[LAST], LAST);
+    add_lookup(inputs, "lookup, none of 64 entries", mark, full, absent, NOWHERE);
+    add_store(inputs, "store, own entry is the first of 64", mark, full, domains[0], 0);
+    add_store(inputs, "store, own entry is the last of 64", mark, full, domains[LAST], LAST);
+    add_store(inputs, "store, empty table", mark, take(sizeof *full), absent, 0);
+    add_store(inputs, "store, 63 live entries, the last is stale", mark, last_stale, absent, LAST);
+}
+
+static void add_caches(struct inputs *inputs)
+{
+    struct bytes domains[ENTRIES];
+    char name[32];
+
+    for (size_t i = 0; i < ENTRIES; i++)
+        domains[i] = text(merchants[i]);
+    add_cache_calls(inputs, "", domains, text("shop-13.example.net"));
+    for (size_t i = 0; i < ENTRIES; i++) {
+        snprintf(name, sizeof name, "shop%02zu.example.com", i);
+        domains[i] = text(name);
+    }
+    add_cache_calls(inputs, ", alike", domains, text("shop64.example.com"));
+}
+
 /* ---- TXT records ---- */
 
 static const char rfc_record[] = "v=STSv1; id=20160831085700Z;";
@@ -473,6 +618,7 @@ struct inputs *build_inputs(void)
     struct inputs *inputs = take(sizeof *inputs);
 
     add_policies(inputs);
+    add_caches(inputs);
     add_txt(inputs);
     add_single_hosts(inputs);
     add_decisions(inputs);

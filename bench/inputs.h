@@ -5,6 +5,8 @@
 #include <stddef.h>
 #include <stdint.h>
 
+#include "tweedstork.h"
+
 struct bytes {
     uint8_t *at;
     size_t length;
@@ -35,17 +37,26 @@ struct facts {
     struct bytes common_name;
 };
 
-/* An answer of any call: its number, then its other fields, then zeros. */
-struct answer {
-    uint64_t fields[4];
+/* The arguments of tweedstork_cache_store; of these tweedstork_cache_lookup takes neither id nor policy. */
+struct cache_call {
+    uint64_t clock;
+    struct bytes domain, id, policy;
+    struct tweedstork_cache *lent;
+    const struct tweedstork_cache *before, *after; /* what must stand in it before the call and afterwards */
+    size_t place;                                  /* of a store: the entry that it writes */
 };
 
-enum call { READ_TXT, READ_POLICY, JUDGE_HOST, NEXT_HOST };
+/* An answer of any call: its number, then its other fields (an id as four of them), then zeros. */
+struct answer {
+    uint64_t fields[10];
+};
 
-/* The tables that the results are shown in. */
-enum table { CALLS, DECISIONS, LAST_RECORD_MATCHES, NO_RECORD_MATCHES, CERTIFICATES, POLICY_BYTES, TXT_BYTES, DNS_IDS, HOSTS, TABLES };
+enum call { READ_TXT, READ_POLICY, CACHE_STORE, CACHE_LOOKUP, JUDGE_HOST, NEXT_HOST, CALL_KINDS };
 
-enum { MAX_STEPS = 5, MAX_INPUTS = 80 };
+/* The tables that the results are shown in. From LAST_RECORD_MATCHES on they are series, that show growth. */
+enum table { CALLS, CACHE, DECISIONS, LAST_RECORD_MATCHES, NO_RECORD_MATCHES, CERTIFICATES, POLICY_BYTES, TXT_BYTES, DNS_IDS, HOSTS, TABLES };
+
+enum { MAX_STEPS = 5, MAX_INPUTS = 96 };
 
 /* One call, or the calls of a decision on a host, with what must be answered. */
 struct input {
@@ -54,6 +65,7 @@ struct input {
     enum call call;
     struct bytes first, second; /* rdatas and lengths; body; preferences and verdicts */
     struct bytes output, text;  /* of read_txt: lent memory, and what must stand in it afterwards */
+    struct cache_call cache;
     size_t steps;
     struct facts facts[MAX_STEPS];
     struct answer expected[MAX_STEPS];

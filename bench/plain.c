@@ -424,9 +424,175 @@ struct tweedstork_policy_answer plain_read_policy(const uint8_t *body, size_t bo
     return (struct tweedstork_policy_answer){number, policy.mode, policy.lifetime, policy.mx_count};
 }
 
-/* ---- a host's facts ---- */
+/* ---- clocks ---- */
 
 #define CLOCK_LIMIT UINT64_C(253402300799)
+
+/* Both clocks are within the limit. */
+static int is_live(uint64_t fetched, uint64_t lifetime, uint64_t clock)
+{
+    return fetched + lifetime > clock;
+}
+
+/* ---- a cache of policies ---- */
+
+enum { ENTRIES = TWEEDSTORK_CACHE_ENTRIES, TEXT_ROOM = TWEEDSTORK_CACHE_TEXT_ROOM, DOMAIN_ROOM = 253, ID_ROOM = 32 };
+
+struct cache {
+    const struct tweedstork_cache_entry *table;
+    const uint8_t *texts;
+};
+
+/* What is read of an entry. */
+struct kept {
+    struct slice id;
+    struct policy policy;
+};
+
+/* Is a field, at most a domain's, filled up with zeros from length on? */
+static int is_filled_up(const uint8_t *field, size_t room, size_t length)
+{
+    static const uint8_t zeros[DOMAIN_ROOM];
+
+    return memcmp(field + length, zeros, room - length) == 0;
+}
+
+/* What stands in a field before the zeros at its end. With a zero inside it is no name and no id: it is empty then. */
+static struct slice content(const uint8_t *field, size_t room)
+{
+    const uint8_t *zero = memchr(field, 0, room);
+    size_t length = zero == NULL ? room : (size_t)(zero - field);
+
+    return (struct slice){field, is_filled_up(field, room, length) ? length : 0};
+}
+
+/* Does an entry's domain equal a name? */
+static int is_domain(const uint8_t *field, struct slice name)
+{
+    return is_same_name((struct slice){field, name.length}, name) && is_filled_up(field, DOMAIN_ROOM, name.length);
+}
+
+/* Reads an entry whose domain is a name. Zero where it counts as empty. */
+static int read_entry(const struct cache *cache, size_t i, struct kept *kept)
+{
+    const struct tweedstork_cache_entry *entry = &cache->table[i];
+
+    if (entry->length > TEXT_ROOM || entry->fetched > CLOCK_LIMIT)
+        return 0;
+    kept->id = content(entry->id, ID_ROOM);
+    return kept->id.length != 0 && is_id(kept->id)
+        && parse_policy((struct slice){cache->texts + TEXT_ROOM * i, entry->length}, NULL, &kept->policy) == TWEEDSTORK_POLICY_ACCEPTED;
+}
+
+/* Finds and reads the first entry that is the domain's own. Its place, or ENTRIES. */
+static size_t find_own(const struct cache *cache, struct slice domain, struct kept *kept)
+{
+    for (size_t i = 0; i < ENTRIES; i++)
+        if (is_domain(cache->table[i].domain, domain) && read_entry(cache, i, kept))
+            return i;
+    return ENTRIES;
+}
+
+/* The first entry that counts as empty, else the first that is stale, else ENTRIES. */
+static size_t find_room(const struct cache *cache, uint64_t clock)
+{
+    struct kept kept;
+    size_t stale = ENTRIES;
+
+    for (size_t i = 0; i < ENTRIES; i++) {
+        const struct tweedstork_cache_entry *entry = &cache->table[i];
+        if (!is_name(content(entry->domain, DOMAIN_ROOM)) || !read_entry(cache, i, &kept))
+            return i;
+        if (stale == ENTRIES && !is_live(entry->fetched, kept.policy.lifetime, clock))
+            stale = i;
+    }
+    return stale;
+}
+
+static void fill(uint8_t *field, size_t room, struct slice value)
+{
+    memcpy(field, value.at, value.length);
+    memset(field + value.length, 0, room - value.length);
+}
+
+/* Zero, or the refusal that the two calls have in common. */
+static uint64_t refused_cache(uint64_t clock, struct slice domain, size_t table_length, size_t texts_length)
+{
+    if (table_length != ENTRIES || texts_length != TWEEDSTORK_CACHE_TEXTS_SIZE)
+        return TWEEDSTORK_BAD_SIZE;
+    if (clock > CLOCK_LIMIT)
+        return TWEEDSTORK_BAD_CLOCK;
+    return is_name(domain) ? 0 : TWEEDSTORK_BAD_NEXT_HOP;
+}
+
+/* Zero, or the refusal of what is to be stored. */
+static uint64_t refused_policy(struct slice id, struct slice body)
+{
+    struct policy policy;
+
+    if (id.length == 0 || !is_id(id))
+        return TWEEDSTORK_BAD_ID;
+    uint64_t number = parse_policy(body, NULL, &policy);
+    if (number != TWEEDSTORK_POLICY_ACCEPTED)
+        return number;
+    return body.length > TEXT_ROOM ? TWEEDSTORK_CACHE_TEXT_LONG : 0;
+}
+
+struct tweedstork_write_answer plain_cache_store(
+    uint64_t clock,
+    const uint8_t *domain, size_t domain_length,
+    const uint8_t *id, size_t id_length,
+    const uint8_t *policy, size_t policy_length,
+    struct tweedstork_cache_entry *table, size_t table_length,
+    uint8_t *texts, size_t texts_length)
+{
+    struct cache cache = {table, texts};
+    struct slice name = {domain, domain_length}, new_id = {id, id_length}, body = {policy, policy_length};
+    struct kept old;
+    uint64_t refusal = refused_cache(clock, name, table_length, texts_length);
+
+    if (refusal != 0 || (refusal = refused_policy(new_id, body)) != 0)
+        return (struct tweedstork_write_answer){refusal, 0};
+    size_t place = find_own(&cache, name, &old);
+    if (place == ENTRIES && (place = find_room(&cache, clock)) == ENTRIES)
+        return (struct tweedstork_write_answer){TWEEDSTORK_CACHE_FULL, 0};
+    fill(table[place].domain, DOMAIN_ROOM, name);
+    fill(table[place].id, ID_ROOM, new_id);
+    table[place].fetched = clock;
+    table[place].length = body.length;
+    memcpy(texts + TEXT_ROOM * place, body.at, body.length);
+    return (struct tweedstork_write_answer){TWEEDSTORK_DONE, 0};
+}
+
+struct tweedstork_cache_answer plain_cache_lookup(
+    uint64_t clock,
+    const uint8_t *domain, size_t domain_length,
+    const struct tweedstork_cache_entry *table, size_t table_length,
+    const uint8_t *texts, size_t texts_length)
+{
+    struct cache cache = {table, texts};
+    struct tweedstork_cache_answer found = {TWEEDSTORK_CACHE_NOT_FOUND, 0, 0, 0, 0, 0, {0}};
+    struct slice name = {domain, domain_length};
+    struct kept kept;
+    uint64_t refusal = refused_cache(clock, name, table_length, texts_length);
+
+    if (refusal != 0) {
+        found.number = refusal;
+        return found;
+    }
+    size_t place = find_own(&cache, name, &kept);
+    if (place == ENTRIES || !is_live(table[place].fetched, kept.policy.lifetime, clock))
+        return found;
+    found.number = TWEEDSTORK_DONE;
+    found.text_start = TEXT_ROOM * place;
+    found.text_length = table[place].length;
+    found.fetched = table[place].fetched;
+    found.id_length = kept.id.length;
+    memcpy(found.id, table[place].id, ID_ROOM);
+    return found;
+}
+
+/* ---- a host's facts ---- */
 
 enum {
     RECORDS_LIMIT = 32, RECORD_LIMIT = 4096,
@@ -765,7 +931,7 @@ static struct tweedstork_host_answer check_and_judge(const struct facts *f)
         refusal = parse_policy(f->policy, &host, &policy);
         if (refusal != TWEEDSTORK_POLICY_ACCEPTED)
             return answer(refusal, 0);
-        needs_mta_sts = policy.mode == TWEEDSTORK_ENFORCE && f->fetched + policy.lifetime > f->clock;
+        needs_mta_sts = policy.mode == TWEEDSTORK_ENFORCE && is_live(f->fetched, policy.lifetime, f->clock);
     }
     if (!tlsa_fits(f))
         return answer(TWEEDSTORK_BAD_TLSA, 0);

@@ -9,6 +9,8 @@
 
 __typeof__(tweedstork_read_txt) plain_read_txt;
 __typeof__(tweedstork_read_policy) plain_read_policy;
+__typeof__(tweedstork_cache_store) plain_cache_store;
+__typeof__(tweedstork_cache_lookup) plain_cache_lookup;
 __typeof__(tweedstork_judge_host) plain_judge_host;
 __typeof__(tweedstork_next_host) plain_next_host;
 
