@@ -270,15 +270,17 @@ static struct input *add_cache_call(struct inputs *inputs, enum call call, const
 static void add_lookup(struct inputs *inputs, const char *name, const char *mark, const struct tweedstork_cache *before, struct bytes domain, size_t place)
 {
     struct input *input = add_cache_call(inputs, CACHE_LOOKUP, name, mark, before, domain);
+    struct tweedstork_cache_answer answer = {TWEEDSTORK_CACHE_NOT_FOUND, 0, 0, 0, 0, 0, {0}};
 
-    if (place == NOWHERE) {
-        expect(input, 0, TWEEDSTORK_CACHE_NOT_FOUND, 0, 0, 0);
-        return;
+    if (place != NOWHERE) {
+        const struct tweedstork_cache_entry *entry = &before->table[place];
+        answer = (struct tweedstork_cache_answer){TWEEDSTORK_DONE, 0, TEXT_ROOM * place, entry->length, entry->fetched, id_of(place).length, {0}};
+        memcpy(answer.id, entry->id, sizeof answer.id);
     }
-    expect(input, 0, TWEEDSTORK_DONE, 0, TEXT_ROOM * place, before->table[place].length);
-    input->expected[0].fields[4] = before->table[place].fetched;
-    input->expected[0].fields[5] = id_of(place).length;
-    memcpy(input->expected[0].fields + 6, before->table[place].id, sizeof before->table[place].id);
+    expect(input, 0, answer.number, 0, 0, 0);
+    input->output = room(sizeof answer);
+    input->text = room(sizeof answer);
+    memcpy(input->text.at, &answer, sizeof answer);
 }
 
 /* Writes the entry at that place. */

@@ -46,9 +46,9 @@ struct cache_call {
     size_t place;                                  /* of a store: the entry that it writes */
 };
 
-/* An answer of any call: its number, then its other fields (an id as four of them), then zeros. */
+/* An answer of any call: its number, then its other fields, then zeros. A lookup's other fields stand in the input's output. */
 struct answer {
-    uint64_t fields[10];
+    uint64_t fields[4];
 };
 
 enum call { READ_TXT, READ_POLICY, CACHE_STORE, CACHE_LOOKUP, JUDGE_HOST, NEXT_HOST, CALL_KINDS };
@@ -64,7 +64,7 @@ struct input {
     char name[80];
     enum call call;
     struct bytes first, second; /* rdatas and lengths; body; preferences and verdicts */
-    struct bytes output, text;  /* of read_txt: lent memory, and what must stand in it afterwards */
+    struct bytes output, text;  /* of read_txt: lent memory; of cache_lookup: its whole answer; and what must stand in it afterwards */
     struct cache_call cache;
     size_t steps;
     struct facts facts[MAX_STEPS];
