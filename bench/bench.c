@@ -23,7 +23,8 @@ static const struct promise {
     const char *rows, *reason;
 } promises[] = {
     {TABLES, NULL, 1.1, "every row but those below", "the aim is 1.0"},
-    {CACHE, NULL, 1.5, "policy cache", "to be said"},
+    {CACHE, NULL, 1.5, "policy cache",
+     "a domain and an id are filled up with zeros: plain C finds where they end, and that only zeros follow, with the C library's `memchr` and `memcmp`, chosen by the processor, which look at 32 bytes an instruction; the archive calls nothing outside itself to read bytes"},
     {DNS_IDS, NULL, 1.5, "DNS-IDs", "until names are compared by their lengths first and then by byte pairs from the right, which is planned"},
     {HOSTS, NULL, 1.5, "hosts of a message",
      "the form of that walk is fixed, arrays of 32 by value with a count: the library reads the lists into arrays and walks those, plain C walks the lists themselves"},
@@ -192,6 +193,8 @@ static void print_table(const struct results *r, enum table table)
     for (size_t i = 0; i < r->inputs->count; i++)
         if (r->inputs->at[i].table == table)
             print_row(r, i);
+    if (table == CACHE)
+        printf("\nThe nanoseconds of a store include putting back what it wrote, so that every store starts from the same cache; its instructions do not.\n");
     if (is_series(table))
         print_growth(r, table);
 }

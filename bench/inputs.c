@@ -194,7 +194,7 @@ static const char *const merchants[] = {
     "print-and-copy.example.net", "shop-07.example.net", "fishmarket.example.org", "vinyl.example.com", "tulip.example.net", "islandferry.example.com",
     "shop-05.example.net", "mountain-huts.example.org", "oak-tables.example.com", "nuts-and-bolts.example", "xylophone.example.net", "pay.a12.example.com",
     "pay.a13.example.com", "shop-09.example.net", "radio.example.org", "brass-band.example.com", "schoolbags.example", "umbra-lamps.example.net",
-    "coffee-04.example.com", "lakeside-camping.example", "acme-toys.example.org", "shop-12.example.net"};
+    "coffee-04.example.com", "lakeside-camping.example", "acme-toys.example.org", "shop-12.outlet.example.net"};
 
 enum {
     ENTRIES = TWEEDSTORK_CACHE_ENTRIES, TEXT_ROOM = TWEEDSTORK_CACHE_TEXT_ROOM, NOWHERE = ENTRIES, HOUR = 3600,
@@ -283,13 +283,13 @@ static void add_lookup(struct inputs *inputs, const char *name, const char *mark
     memcpy(input->text.at, &answer, sizeof answer);
 }
 
-/* Writes the entry at that place. */
+/* Writes the entry at that place. In some row the domain or the id is shorter than what stood there, so that the zeros behind it count. */
 static void add_store(struct inputs *inputs, const char *name, const char *mark, const struct tweedstork_cache *before, struct bytes domain, size_t place)
 {
     struct input *input = add_cache_call(inputs, CACHE_STORE, name, mark, before, domain);
     struct tweedstork_cache *after = copy_of(before);
 
-    input->cache.id = text("20231114221320Z");
+    input->cache.id = text("20231114221320");
     input->cache.policy = policy_of(domain, place + 1);
     put_entry(after, place, cache_clock, domain, input->cache.id, input->cache.policy);
     input->cache.after = after;
