@@ -24,7 +24,7 @@ static const struct promise {
 } promises[] = {
     {TABLES, NULL, 1.1, "every row but those below", "the aim is 1.0"},
     {CACHE, NULL, 1.5, "policy cache",
-     "a domain and an id are filled up with zeros: plain C finds where they end, and that only zeros follow, with the C library's `memchr` and `memcmp`, chosen by the processor, which look at 32 bytes an instruction; the archive calls nothing outside itself to read bytes"},
+     "domains and ids are filled up with zeros, which plain C reads with the C library's `memchr` and `memcmp`, chosen by the processor; the archive calls neither"},
     {DNS_IDS, NULL, 1.5, "DNS-IDs", "until names are compared by their lengths first and then by byte pairs from the right, which is planned"},
     {HOSTS, NULL, 1.5, "hosts of a message",
      "the form of that walk is fixed, arrays of 32 by value with a count: the library reads the lists into arrays and walks those, plain C walks the lists themselves"},
@@ -280,7 +280,7 @@ static void print_stack(const struct results *r)
         [JUDGE_HOST] = "tweedstork_judge_host", [NEXT_HOST] = "tweedstork_next_host"};
 
     printf("\n## Stack of the library's calls\n\n| Call | most bytes of stack on any of these inputs |\n|---|--:|\n");
-    for (size_t call = 0; call < CALL_KINDS; call++) {
+    for (size_t call = READ_TXT; call <= NEXT_HOST; call++) {
         printf("| `%s` |", names[call]);
         print_cell((double)most_stack(r, (enum call)call));
         printf("\n");

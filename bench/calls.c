@@ -29,7 +29,7 @@ static struct answer call_judge_host(const struct implementation *implementation
     return (struct answer){{a.number, a.tlsa_questions, 0, 0}};
 }
 
-/* What a store writes is put back first: every call has the same work, and what callgrind counts begins after this. */
+/* What the store before wrote is put back first, so that every store has the same to do. Callgrind counts inside the call alone. */
 static struct answer call_cache_store(const struct implementation *implementation, const struct cache_call *c)
 {
     size_t start = TWEEDSTORK_CACHE_TEXT_ROOM * c->place;
@@ -74,9 +74,10 @@ struct answer make_call(const struct implementation *implementation, const struc
         return call_cache_store(implementation, &input->cache);
     case CACHE_LOOKUP:
         return call_cache_lookup(implementation, &input->cache, output);
-    default:
-        return call_judge_host(implementation, &input->facts[step]);
+    case JUDGE_HOST:
+        break;
     }
+    return call_judge_host(implementation, &input->facts[step]);
 }
 
 uint64_t make_calls(const struct implementation *implementation, const struct input *input)
@@ -88,7 +89,7 @@ uint64_t make_calls(const struct implementation *implementation, const struct in
     return sum;
 }
 
-/* Fills what the call may write to with what it does not write, or with what must stand there before the call. */
+/* Dots in the output, so that a byte that isn't written is seen; all of the cache as it must be before the call. */
 static void prepare(const struct input *input)
 {
     if (input->output.length != 0)

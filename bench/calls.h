@@ -19,7 +19,7 @@ enum { LIBRARY, PLAIN_C, RUST, IMPLEMENTATIONS };
 
 extern const struct implementation implementations[IMPLEMENTATIONS];
 
-/* Makes the call, or that step of a decision's calls. Before a store the memory is put back to where every store of the input starts from. */
+/* Makes the call, or that step of a decision's calls. Before a store it puts back what such a store writes. */
 struct answer make_call(const struct implementation *implementation, const struct input *input, size_t step);
 
 /* Makes all calls of the input; the sum of the answer numbers. */

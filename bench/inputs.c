@@ -245,7 +245,7 @@ static void put_entry(struct tweedstork_cache *cache, size_t place, uint64_t fet
     memcpy(cache->texts + TEXT_ROOM * place, policy.at, policy.length);
 }
 
-/* Every entry is live, an hour older than the one before. What no entry and no text takes up is not zero, so that a byte too many is seen. */
+/* Every entry is live, an hour older than the one before. Dots stand behind each text and in the padding, so that a byte too many is seen. */
 static struct tweedstork_cache *full_cache(const struct bytes domains[ENTRIES])
 {
     struct tweedstork_cache *cache = take(sizeof *cache);
@@ -256,7 +256,8 @@ static struct tweedstork_cache *full_cache(const struct bytes domains[ENTRIES])
     return cache;
 }
 
-static struct input *add_cache_call(struct inputs *inputs, enum call call, const char *name, const char *mark, const struct tweedstork_cache *before, struct bytes domain)
+static struct input *add_cache_call(
+    struct inputs *inputs, enum call call, const char *name, const char *mark, const struct tweedstork_cache *before, struct bytes domain)
 {
     char marked[80];
 
@@ -267,7 +268,8 @@ static struct input *add_cache_call(struct inputs *inputs, enum call call, const
 }
 
 /* Finds the entry at that place. */
-static void add_lookup(struct inputs *inputs, const char *name, const char *mark, const struct tweedstork_cache *before, struct bytes domain, size_t place)
+static void add_lookup(
+    struct inputs *inputs, const char *name, const char *mark, const struct tweedstork_cache *before, struct bytes domain, size_t place)
 {
     struct input *input = add_cache_call(inputs, CACHE_LOOKUP, name, mark, before, domain);
     struct tweedstork_cache_answer answer = {TWEEDSTORK_CACHE_NOT_FOUND, 0, 0, 0, 0, 0, {0}};
@@ -283,8 +285,9 @@ static void add_lookup(struct inputs *inputs, const char *name, const char *mark
     memcpy(input->text.at, &answer, sizeof answer);
 }
 
-/* Writes the entry at that place. In some row the domain or the id is shorter than what stood there, so that the zeros behind it count. */
-static void add_store(struct inputs *inputs, const char *name, const char *mark, const struct tweedstork_cache *before, struct bytes domain, size_t place)
+/* Writes the entry at that place. In some row the new domain or id is shorter than the old one, so that missing zeros are seen. */
+static void add_store(
+    struct inputs *inputs, const char *name, const char *mark, const struct tweedstork_cache *before, struct bytes domain, size_t place)
 {
     struct input *input = add_cache_call(inputs, CACHE_STORE, name, mark, before, domain);
     struct tweedstork_cache *after = copy_of(before);
@@ -319,7 +322,7 @@ static void add_caches(struct inputs *inputs)
 
     for (size_t i = 0; i < ENTRIES; i++)
         domains[i] = text(merchants[i]);
-    /* With this domain another begins: to compare the front is not enough. */
+    /* It is the front of another domain, so that comparing no more than the front is seen. */
     add_cache_calls(inputs, "", domains, text("shop-01.example"));
     for (size_t i = 0; i < ENTRIES; i++) {
         snprintf(name, sizeof name, "shop%02zu.example.com", i);

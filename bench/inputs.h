@@ -51,9 +51,9 @@ struct answer {
     uint64_t fields[4];
 };
 
-enum call { READ_TXT, READ_POLICY, CACHE_STORE, CACHE_LOOKUP, JUDGE_HOST, NEXT_HOST, CALL_KINDS };
+enum call { READ_TXT, READ_POLICY, CACHE_STORE, CACHE_LOOKUP, JUDGE_HOST, NEXT_HOST };
 
-/* The tables that the results are shown in. From LAST_RECORD_MATCHES on they are series, that show growth. */
+/* The tables that the results are shown in. From LAST_RECORD_MATCHES on each is a series that shows growth. */
 enum table { CALLS, CACHE, DECISIONS, LAST_RECORD_MATCHES, NO_RECORD_MATCHES, CERTIFICATES, POLICY_BYTES, TXT_BYTES, DNS_IDS, HOSTS, TABLES };
 
 enum { MAX_STEPS = 5, MAX_INPUTS = 96 };
@@ -64,7 +64,7 @@ struct input {
     char name[80];
     enum call call;
     struct bytes first, second; /* rdatas and lengths; body; preferences and verdicts */
-    struct bytes output, text;  /* of read_txt: lent memory; of cache_lookup: its whole answer; and what must stand in it afterwards */
+    struct bytes output, text;  /* of read_txt: lent memory, of cache_lookup: where its whole answer goes; and what must stand there afterwards */
     struct cache_call cache;
     size_t steps;
     struct facts facts[MAX_STEPS];
