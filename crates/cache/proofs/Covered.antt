@@ -6,18 +6,19 @@ use mathlib.Core.List.{List, [], _∷_, _++_}
 use mathlib.Core.Option.{Option, none, some}
 use native.Mathlib.Omega.{arith}
 use lib.Dec.{eqb, leb, ltb}
-use lib.ListN.{length, getD, take, drop, drop-of-length-le}
-use lib.Seq.{take-add, take-length, take-nil}
+use lib.ListN.{length, getD, take, drop, length-drop, drop-of-length-le}
+use lib.Seq.{take-add, take-all, take-nil}
 use borrow.Author.Needs.{needs}
 use borrow.Author.Tests.{not-true, not-false, le-leb, lt-leb, lt-ltb, le-ltb, eq-eqb, ne-eqb, eqb-true, eqb-false}
-use Rattle.lists.specs.Bytes.{all}
-use Rattle.lists.specs.Equal.{sameLetter, sameText}
+use Rattle.lists.specs.Bytes.{within, all, lowerOf}
+use Rattle.lists.specs.Equal.{agree, sameLetter, sameBytes, sameText}
 use Rattle.lists.specs.Span.{trimmedLength}
 use Rattle.lists.specs.Check.{refusalOf}
 use Rattle.lists.specs.Words.{numberOf, eightAt, firstEight}
 use Rattle.lists.specs.Write.{wroteFront}
 use Rattle.lists.proofs.Bools.{and-intro}
-use Rattle.lists.proofs.Agree.{agree-length}
+use Rattle.lists.proofs.Agree.{agree-length, same-bytes}
+use Rattle.lists.proofs.Laws.{drop-take, take-rest}
 use Rattle.lists.proofs.Trim.{trim-start, trim-next, trim-stop, trim-end, trim-append, trim-le, trim-length}
 use Rattle.lists.proofs.Words.{eight-part}
 use Rattle.names.specs.Name.{isName}
@@ -36,7 +37,7 @@ use Rattle.cache.specs.declared.CacheAnswer.{CacheAnswer}
 use Rattle.cache.specs.Held.{Held, textPlace, isZero, unfilled, zeros, filled, isPolicy, textAt, fieldsFit, isAccepted, written, heldIn, noEntry}
 use Rattle.cache.specs.Store.{isLiveAt, sizesFit, argumentChecks, entryFor}
 use Rattle.cache.specs.Lookup.{onlyNumber, refusedOr, clockAndName, lookupRefusal}
-use Rattle.cache.specs.Scan.{stateOf, rankIn, foundOf, beginning, isSought, better, nextAt, beyond, refusalFor, refusedPlan, planBy, planOf, foundText, answerBy, answerFrom}
+use Rattle.cache.specs.Scan.{stateOf, rankIn, foundOf, beginning, firstLetter, sameAfterFirst, sameRest, isSought, better, nextAt, beyond, refusalFor, refusedPlan, planBy, planOf, foundText, answerBy, answerFrom}
 
 -- ---- `zeros_by_eight`: a number of eight bytes that is zero has only zeros
 number-zeros : (s : List ℕ) → numberOf s ≡ 0 → all isZero s ≡ true
@@ -47,15 +48,36 @@ number-zeros (b ∷ s) h =
     let r : numberOf s ≡ 0 = omega (arith, h) in
     and-intro (eqb b 0) (all isZero s) (eq-eqb b 0 z) (number-zeros s r)
 
-module _ (s : List ℕ) (e : ℕ) (inv : trimmedLength isZero s ≡ trimmedLength isZero (take e s)) (w : e ≤ length s) where
-  pub eight-zeros : 8 ≤ e → (word : ℕ) → word ≡ numberOf (firstEight (take (e - 8 + 8 - (e - 8)) (drop (e - 8) s))) → word ≡ 0 → trimmedLength isZero s ≡ trimmedLength isZero (take (e - 8) s)
-  eight-zeros l word g z =
-      let n : e ≡ e - 8 + 8 = omega arith in
-      let u : take e s ≡ take (e - 8) s ++ take 8 (drop (e - 8) s) = ap (λ (k : ℕ). take k s) n ∙ take-add (e - 8) 8 s in
-      let a : all isZero (take 8 (drop (e - 8) s)) ≡ true = number-zeros (take 8 (drop (e - 8) s)) (ap numberOf (sym (eight-part s (e - 8) (omega arith))) ∙ (sym g ∙ z)) in
-      inv ∙ (ap (trimmedLength isZero) u ∙ trim-append isZero (take (e - 8) s) (take 8 (drop (e - 8) s)) a)
+-- eight zeros before e count for nothing
+eight-gone : (s : List ℕ) (e i : ℕ) → e ≡ i + 8 → all isZero (take 8 (drop i s)) ≡ true → trimmedLength isZero (take e s) ≡ trimmedLength isZero (take i s)
+eight-gone s e i n a =
+    let u : take e s ≡ take i s ++ take 8 (drop i s) = ap (λ (k : ℕ). take k s) n ∙ take-add i 8 s in
+    ap (trimmedLength isZero) u ∙ trim-append isZero (take i s) (take 8 (drop i s)) a
 
-pub ruleset eight-laws = (trim-start, eight-zeros, needs)
+-- the start: the last eight bytes are zeros
+module _ (s : List ℕ) (l : 8 ≤ length s) (word : ℕ) (g : word ≡ numberOf (firstEight (take (length s - 8 + 8 - (length s - 8)) (drop (length s - 8) s)))) (z : word ≡ 0) where
+  pub last-zeros : all isZero (take 8 (drop (length s - 8) s)) ≡ true
+  last-zeros = number-zeros (take 8 (drop (length s - 8) s)) (ap numberOf (sym (eight-part s (length s - 8) (omega arith))) ∙ (sym g ∙ z))
+
+  pub last-gone : trimmedLength isZero s ≡ trimmedLength isZero (take (length s - 8) s)
+  last-gone = trim-start isZero s ∙ eight-gone s (length s) (length s - 8) (omega arith) last-zeros
+
+-- a turn: the eight bytes before e are those from e on, which are zeros
+module _ (s : List ℕ) (e : ℕ) (inv : trimmedLength isZero s ≡ trimmedLength isZero (take e s)) (w : e + 8 ≤ length s) (a : all isZero (take 8 (drop e s)) ≡ true) (l : 8 ≤ e) (r : Bool)
+    (g : r ≡ sameBytes (take (e - 8 + 8 - (e - 8)) (drop (e - 8) s)) (take (e + 8 - e) (drop e s))) (t : r ≡ true) where
+  pub eight-zeros : all isZero (take 8 (drop (e - 8) s)) ≡ true
+  eight-zeros =
+      let n : e - 8 + 8 - (e - 8) ≡ 8 = omega arith in
+      let m : e + 8 - e ≡ 8 = omega arith in
+      let q : sameBytes (take 8 (drop (e - 8) s)) (take 8 (drop e s)) ≡ true = ap (λ (k : ℕ). sameBytes (take k (drop (e - 8) s)) (take 8 (drop e s))) (sym n) ∙ (ap (λ (k : ℕ). sameBytes (take (e - 8 + 8 - (e - 8)) (drop (e - 8) s)) (take k (drop e s))) (sym m) ∙ (sym g ∙ t)) in
+      ap (all isZero) (same-bytes (take 8 (drop (e - 8) s)) (take 8 (drop e s)) q) ∙ a
+
+  pub eight-next : trimmedLength isZero s ≡ trimmedLength isZero (take (e - 8) s)
+  eight-next = inv ∙ eight-gone s e (e - 8) (omega arith) eight-zeros
+
+pub ruleset turn-laws = (eight-zeros, eight-next, not-true, not-false, needs)
+
+pub ruleset eight-laws = (trim-start, last-zeros, last-gone, not-false, needs)
 
 -- ---- `unfilled_length`: its loop begins where `zeros_by_eight` ended
 pub ruleset length-laws = (trim-next, trim-stop, trim-end, not-true, not-false, needs)
@@ -73,32 +95,58 @@ module _ (s u : List ℕ) (e : u ≡ unfilled s) where
 
 pub ruleset field-laws = (unfilled-is, field-name, field-id, needs)
 
--- ---- `is_field_of`: r is whether the front of the field is the domain
+-- ---- `first_letter`
+module _ (s : List ℕ) where
+  pub letter-none : length s ≡ 0 → 0 ≡ firstLetter s
+  unfolding firstLetter lowerOf
+  letter-none e = go s e
+    where
+      go : (u : List ℕ) → length u ≡ 0 → 0 ≡ cond (within 65 90 (getD u 0 0)) (getD u 0 0 + 32) (getD u 0 0)
+      go [] h = refl
+      go (b ∷ u) h = absurd (omega arith)
+
+  pub letter-is : (r : ℕ) → r ≡ lowerOf (getD s 0 0) → r ≡ firstLetter s
+  unfolding firstLetter
+  letter-is r g = g
+
+pub ruleset letter-laws = (letter-none, letter-is, needs)
+
+take-most : (n : ℕ) (l : List ℕ) → length (take n l) ≤ n
+take-most zero l = omega arith
+take-most (suc n) [] = omega arith
+take-most (suc n) (b ∷ l) = omega (arith, take-most n l)
+
+-- ---- `is_same_after_first`, `is_rest_of`: r is what the first gave
 module _ (s d : List ℕ) where
-  sized-apart : (trimmedLength isZero s ≡ length d → ⊥) → false ≡ sameText (unfilled s) d
-  sized-apart n = agree-length sameLetter (unfilled s) d (λ e. n (sym (trim-length isZero s) ∙ e))
+  pub after-none : length d < 2 → true ≡ sameAfterFirst s d
+  unfolding sameAfterFirst agree
+  after-none l =
+      let short : length (take (length d) s) ≤ 1 = omega (arith, l, take-most (length d) s) in
+      let one : length d ≤ 1 = omega arith in
+      let a : drop 1 (take (length d) s) ≡ [] = drop-of-length-le (take (length d) s) short in
+      let b : drop 1 d ≡ [] = drop-of-length-le d one in
+      rw (a, b)
 
-  pub field-short : length s < length d → false ≡ sameText (unfilled s) d
-  field-short h = sized-apart (λ e. omega (arith, h, e, trim-le isZero s))
+  pub after-short : 2 ≤ length d → length s < length d → false ≡ sameAfterFirst s d
+  unfolding sameAfterFirst
+  after-short l h =
+      let all-of : s ≡ take (length d) s = sym (take-all (length d) s (omega arith)) in
+      rw all-of at (agree-length sameLetter (drop 1 s) (drop 1 d) (λ e. omega (arith, l, h, e, length-drop 1 s, length-drop 1 d)))
 
-  module _ (r : Bool) (g : r ≡ sameText (take (length d - 0) (drop 0 s)) d) where
-    front-is : r ≡ sameText (take (length d) s) d
-    front-is = let z : length d - 0 ≡ length d = omega arith in rw z at g
+  pub after-is : 2 ≤ length d → length d ≤ length s → (r : Bool) → r ≡ sameText (take (length d - 1) (drop 1 s)) (take (length d - 1) (drop 1 d)) → r ≡ sameAfterFirst s d
+  unfolding sameAfterFirst
+  after-is l m r g = g ∙ rw (drop-take 1 (length d) s, take-rest d 1)
 
-    domain-is : sameText (unfilled s) d ≡ (r && eqb (trimmedLength isZero s) (length d))
-    domain-is = go (eqb (trimmedLength isZero s) (length d)) refl
-      where
-        go : (b : Bool) → eqb (trimmedLength isZero s) (length d) ≡ b → sameText (unfilled s) d ≡ (r && b)
-        go true e = ap (λ (k : ℕ). sameText (take k s) d) (eqb-true (trimmedLength isZero s) (length d) e) ∙ (sym front-is ∙ sym (and-true r))
-        go false e = sym (sized-apart (eqb-false (trimmedLength isZero s) (length d) e)) ∙ sym (and-false r)
+  module _ (r : Bool) (g : r ≡ sameAfterFirst s d) where
+    pub rest-other : r ≡ false → false ≡ sameRest s d
+    unfolding sameRest
+    rest-other h = rw (sym g, h)
 
-    pub field-other : r ≡ false → false ≡ sameText (unfilled s) d
-    field-other h = sym (domain-is ∙ rw h)
+    pub rest-same : r ≡ true → (k : ℕ) → k ≡ trimmedLength isZero s → eqb k (length d) ≡ sameRest s d
+    unfolding sameRest
+    rest-same h k q = rw (q, sym g, h)
 
-    pub field-same : r ≡ true → (k : ℕ) → k ≡ trimmedLength isZero s → eqb k (length d) ≡ sameText (unfilled s) d
-    field-same h k q = rw q (sym (domain-is ∙ rw h))
-
-pub ruleset domain-laws = (field-short, field-other, field-same, not-true, not-false, needs)
+pub ruleset rest-laws = (after-none, after-short, after-is, rest-other, rest-same, not-true, not-false, needs)
 
 -- ---- `fields_fit`
 module _ (e : CacheEntry) where
@@ -181,21 +229,26 @@ module _ (own : Bool) (state : State) (r : ℕ) where
 pub ruleset rank-laws = (rank-own, rank-other, not-true, not-false, needs)
 
 -- ---- `is_sought`, `better_at`, `next_at`
-module _ (own : Bool) (rank : ℕ) (field d : List ℕ) where
-  pub sought-done : rank ≤ 2 → false ≡ isSought own rank field d
+module _ (own : Bool) (rank first : ℕ) (field d : List ℕ) where
+  pub sought-done : rank ≤ 2 → false ≡ isSought own rank first field d
   unfolding isSought
   sought-done h = rw (le-ltb 2 rank h)
 
   module _ (h : 2 < rank) where
-    pub sought-any : own ≡ false → true ≡ isSought own rank field d
+    pub sought-any : own ≡ false → true ≡ isSought own rank first field d
     unfolding isSought
     sought-any o = rw (lt-ltb 2 rank h, o)
 
-    pub sought-own : own ≡ true → (r : Bool) → r ≡ sameText (unfilled field) d → r ≡ isSought own rank field d
-    unfolding isSought
-    sought-own o r g = rw (lt-ltb 2 rank h, o) g
+    module _ (o : own ≡ true) (letter : ℕ) (l : letter ≡ firstLetter field) where
+      pub sought-letter : (letter ≡ first → ⊥) → false ≡ isSought own rank first field d
+      unfolding isSought
+      sought-letter n = rw (lt-ltb 2 rank h, o, sym l, ne-eqb letter first n)
 
-pub ruleset sought-laws = (sought-done, sought-any, sought-own, not-true, not-false, needs)
+      pub sought-own : letter ≡ first → (r : Bool) → r ≡ sameRest field d → r ≡ isSought own rank first field d
+      unfolding isSought
+      sought-own e r g = rw (lt-ltb 2 rank h, o, sym l, eq-eqb letter first e) g
+
+pub ruleset sought-laws = (sought-done, sought-any, sought-letter, sought-own, not-true, not-false, needs)
 
 module _ (own : Bool) (clock : ℕ) (x : List ℕ) (s : Found) (e : CacheEntry) (i : ℕ) (text : List ℕ) (t : text ≡ take (e .length) (drop (textPlace i) x)) (state : State) (g : state ≡ stateOf clock (heldIn e text)) (rank : ℕ) (k : rank ≡ rankIn own state) where
   rank-is : rank ≡ rankIn own (stateOf clock (heldIn e (textAt x i e)))
@@ -359,12 +412,18 @@ module _ (x : List ℕ) (s : Found) where
     unfolding answerBy
     by-outside r h g = g ∙ rw (eq-eqb (s .rank) 0 z, le-ltb (s .place) 64 h)
 
-    pub by-found : s .place < 64 → (text : List ℕ) → text ≡ foundText x s → (size : ℕ) → size ≡ trimmedLength isZero (s .id) → (u : List ℕ) → u ≡ unfilled (s .id) → (id : List ℕ) → id ≡ filled 32 u
+    pub by-found : s .place < 64 → (text : List ℕ) → text ≡ foundText x s → (size : ℕ) → size ≡ trimmedLength isZero (s .id) → (id : List ℕ) → id ≡ filled 32 (take (size - 0) (drop 0 (s .id)))
         → _≡_ {A = CacheAnswer} (record { number = 15; length = 0; «text_start» = 1024 * s .place; «text_length» = length text; fetched = s .fetched; «id_length» = size; id = id }) (answerBy x s)
     unfolding answerBy textPlace
-    by-found w text t size n u m id f = rw (eq-eqb (s .rank) 0 z, lt-ltb (s .place) 64 w, t, f, m, n, trim-length isZero (s .id))
+    by-found w text t size n id f =
+        let y : size - 0 ≡ size = omega arith in
+        rw (eq-eqb (s .rank) 0 z, lt-ltb (s .place) 64 w, t, f, y, n, trim-length isZero (s .id))
 
-pub ruleset by-laws = (by-nothing, by-outside, by-found, needs)
+-- the id's bytes lie inside its field
+pub size-inside : (f : List ℕ) (k : ℕ) → k ≡ trimmedLength isZero f → k ≤ length f
+size-inside f k e = omega (arith, e, trim-le isZero f)
+
+pub ruleset by-laws = (size-inside, by-nothing, by-outside, by-found, needs)
 
 module _ (clock : ℕ) (d : List ℕ) (n : ℕ) (x : List ℕ) (s : Found) where
   abbrev Answers : CacheAnswer → Type 0

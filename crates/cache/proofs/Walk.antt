@@ -1,6 +1,6 @@
 -- What the walks of this crate share.
 --     rest          what runs after the first statement of a sequence: a proof names a part of a turn by it
---     thenOf        the first branch of the test that comes next
+--     thenOf        the first branch of a test
 --     entry-next    what is left of a table at i begins with the entry at i
 --     place-fits    the place of an entry of 304 bytes is a number of 64 bits
 -- Assumes nothing.
@@ -25,26 +25,13 @@ rest (exit n) = skip
 rest return = skip
 rest (call f xs d) = skip
 
--- the first branch of the test with which a sequence begins
-abbrev thenOfTest : Body → Body
-thenOfTest skip = skip
-thenOfTest (seq a b) = skip
-thenOfTest (assign p r) = skip
-thenOfTest (block a) = skip
-thenOfTest (loop a) = skip
-thenOfTest (cond c a b) = a
-thenOfTest (switch c arms) = skip
-thenOfTest (exit n) = skip
-thenOfTest return = skip
-thenOfTest (call f xs d) = skip
-
 abbrev pub thenOf : Body → Body
 thenOf skip = skip
-thenOf (seq a b) = thenOfTest a
+thenOf (seq a b) = skip
 thenOf (assign p r) = skip
 thenOf (block a) = skip
 thenOf (loop a) = skip
-thenOf (cond c a b) = skip
+thenOf (cond c a b) = a
 thenOf (switch c arms) = skip
 thenOf (exit n) = skip
 thenOf return = skip

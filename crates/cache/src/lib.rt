@@ -4,7 +4,6 @@ ghost use mathlib.Core.Path.{_≡_};
 ghost use mathlib.Core.Bool.{true, false};
 ghost use Prim.Native.Nat.{_≤_};
 ghost use lib.ListN.{length, set, take, drop};
-ghost use Rattle.lists.specs.Equal.{sameText};
 ghost use Rattle.lists.specs.Span.{trimmedLength};
 ghost use Rattle.lists.specs.Write.{wroteFront};
 ghost use Rattle.names.specs.Name.{isName};
@@ -13,7 +12,7 @@ ghost use Rattle.writing.specs.Over.{over};
 ghost use Rattle.cache.specs.Held.{textPlace, isZero, unfilled, filled, fieldsFit, heldIn, noEntry};
 ghost use Rattle.cache.specs.Store.{entryFor};
 ghost use Rattle.cache.specs.Lookup.{onlyNumber};
-ghost use Rattle.cache.specs.Scan.{stateOf, rankIn, foundOf, beginning, isSought, better, scanned, nextAt, beyond, refusedPlan, planOf, answerBy, answerFrom};
+ghost use Rattle.cache.specs.Scan.{stateOf, rankIn, foundOf, beginning, firstLetter, sameAfterFirst, sameRest, isSought, better, scanned, nextAt, beyond, refusedPlan, planOf, answerBy, answerFrom};
 use clock::Lifetime;
 use clock::Reading;
 
@@ -89,15 +88,22 @@ fn is_zero(b: u8) -> bool
     b == 0
 }
 
-// Where the final zeros of s begin, as far as they fill eight bytes at a time.
+// Where the final zeros of s begin, as far as they fill eight bytes at a time: each eight are compared with the eight after them.
 fn zeros_by_eight(s: &[u8]) -> usize
     ensures { λ r. ⌜ (r ≤ length (now (s .entry))) × (trimmedLength isZero (now (s .entry)) ≡ trimmedLength isZero (take r (now (s .entry)))) ⌝ }
 {
-    let mut e = s.len();
+    if s.len() < 8 {
+        return s.len();
+    }
+    let mut e = s.len() - 8;
+    let last = lists::first_eight(&s[e..e + 8]);
+    if last != 0 {
+        return s.len();
+    }
     while 8 <= e {
         let i = e - 8;
-        let word = lists::first_eight(&s[i..i + 8]);
-        if word != 0 {
+        let same = lists::equal(&s[i..i + 8], &s[e..e + 8]);
+        if !same {
             return e;
         }
         e = i;
@@ -143,20 +149,40 @@ fn is_id_field(field: &[u8]) -> bool
     txt::is_id(unfilled_part(field))
 }
 
-// Whether a field holds this domain, ignoring ASCII case. The final zeros are looked for only where the bytes before them are the same.
-fn is_field_of(field: &[u8], domain: &[u8]) -> bool
-    ensures { λ r. ⌜ r ≡ sameText (unfilled (now (field .entry))) (now (domain .entry)) ⌝ }
+// The first letter of a text, as a small one; 0 where there is none.
+fn first_letter(s: &[u8]) -> u8
+    ensures { λ r. ⌜ r ≡ firstLetter (now (s .entry)) ⌝ }
+{
+    if s.len() == 0 {
+        return 0;
+    }
+    lists::lower(s[0])
+}
+
+// Whether the letters after the first are the same in a field and a domain, as far as the domain goes, ignoring ASCII case.
+fn is_same_after_first(field: &[u8], domain: &[u8]) -> bool
+    ensures { λ r. ⌜ r ≡ sameAfterFirst (now (field .entry)) (now (domain .entry)) ⌝ }
 {
     let n = domain.len();
+    if n < 2 {
+        return true;
+    }
     if field.len() < n {
         return false;
     }
-    let same = lists::equal_by_letter(&field[0..n], domain);
+    lists::equal_by_letter(&field[1..n], &domain[1..])
+}
+
+// Whether a field holds this domain but for the first letter of each. The final zeros are looked for only where the bytes before them are the same.
+fn is_rest_of(field: &[u8], domain: &[u8]) -> bool
+    ensures { λ r. ⌜ r ≡ sameRest (now (field .entry)) (now (domain .entry)) ⌝ }
+{
+    let same = is_same_after_first(field, domain);
     if !same {
         return false;
     }
     let size = unfilled_length(field);
-    size == n
+    size == domain.len()
 }
 
 // Whether the fields of an entry are accepted.
@@ -271,9 +297,9 @@ pub fn begin(n: usize, m: usize) -> Found
     nothing_found(4, n)
 }
 
-// Whether an entry with this domain field has to be looked at.
-fn is_sought(own: bool, rank: u64, field: &[u8], domain: &[u8]) -> bool
-    ensures { λ r. ⌜ r ≡ isSought own rank (now (field .entry)) (now (domain .entry)) ⌝ }
+// Whether an entry with this domain field has to be looked at: most differ in the first letter.
+fn is_sought(own: bool, rank: u64, first: u8, field: &[u8], domain: &[u8]) -> bool
+    ensures { λ r. ⌜ r ≡ isSought own rank first (now (field .entry)) (now (domain .entry)) ⌝ }
 {
     if rank <= 2 {
         return false;
@@ -281,7 +307,11 @@ fn is_sought(own: bool, rank: u64, field: &[u8], domain: &[u8]) -> bool
     if !own {
         return true;
     }
-    is_field_of(field, domain)
+    let letter = first_letter(field);
+    if letter != first {
+        return false;
+    }
+    is_rest_of(field, domain)
 }
 
 // What is found, or the entry at position i where it is better.
@@ -330,13 +360,16 @@ pub fn scan(
     ensures { λ r. ⌜ r ≡ scanned own clock (now (domain .entry)) start (now (table .entry)) (now (texts .entry)) ⌝ }
 {
     let mut found = start;
+    let first = first_letter(domain);
     let mut i = 0;
     while i < table.len() {
-        let sought = is_sought(own, found.rank, &table[i].domain, domain);
+        let sought = is_sought(own, found.rank, first, &table[i].domain, domain);
         if sought {
             found = better_at(own, clock, texts, found, table[i], i);
+            i = next_at(found.rank, i, table.len());
+        } else {
+            i += 1;
         }
-        i = next_at(found.rank, i, table.len());
     }
     found
 }
@@ -493,7 +526,7 @@ fn answer_by(texts: &[u8], s: Found) -> CacheAnswer
     let text = text_part(texts, place, s.length);
     let field = s.id;
     let size = unfilled_length(&field);
-    let id = filled_id(unfilled_part(&field));
+    let id = filled_id(&field[0..size]);
     CacheAnswer {
         number: 15,
         length: 0,

@@ -101,6 +101,21 @@ letter-above x y r g = g ∙ letter-swap y x
 pub letter-far : (x y : ℕ) → (x ≡ y → ⊥) → y ≤ x → y < x
 letter-far x y d h = omega (arith, d)
 
+-- `lower`: r is whether b is a capital
+module _ (b : ℕ) (r : Bool) (g : r ≡ within 65 90 b) where
+  pub lower-capital : r ≡ true → b + 32 ≡ lowerOf b
+  unfolding lowerOf
+  lower-capital t = rw (sym g, t)
+
+  pub lower-other : r ≡ false → b ≡ lowerOf b
+  unfolding lowerOf
+  lower-other t = rw (sym g, t)
+
+  pub lower-fits : r ≡ true → b + 32 < 256
+  lower-fits t = let w = within-true 65 90 b (sym g ∙ t) in omega (arith, w .1)
+
+pub ruleset lower-laws = (lower-capital, lower-other, lower-fits, not-true, not-false, needs)
+
 pub ruleset letter-laws = (letter-same, capital-apart, capital-is, letter-above, letter-far, needs)
 
 -- what agrees by a test that each element passes with itself: the list with itself

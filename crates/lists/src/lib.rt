@@ -5,7 +5,7 @@ ghost use Prim.Native.Nat.{_+_, _/_, _<_, _≤_};
 ghost use lib.Count.{trailingZeros};
 ghost use lib.Dec.{leb};
 ghost use lib.ListN.{length, take, drop};
-ghost use Rattle.lists.specs.Bytes.{within, isBytes};
+ghost use Rattle.lists.specs.Bytes.{within, isBytes, lowerOf};
 ghost use Rattle.lists.specs.Equal.{sameByte, sameLetter, sameBytes, sameText};
 ghost use Rattle.lists.specs.Split.{indexOf};
 ghost use Rattle.lists.specs.Words.{numberOf, eightAt, firstEight};
@@ -29,6 +29,17 @@ pub fn is_same_byte(x: u8, y: u8) -> bool
     ensures { λ r. ⌜ r ≡ sameByte x y ⌝ }
 {
     x == y
+}
+
+// The small letter of an ASCII capital, and any other byte as it is.
+pub fn lower(b: u8) -> u8
+    ensures { λ r. ⌜ r ≡ lowerOf b ⌝ }
+{
+    let capital = is_within(b'A', b'Z', b);
+    if capital {
+        return b + 32;
+    }
+    b
 }
 
 // Whether c is an ASCII capital and y its small letter.

@@ -24,17 +24,20 @@ slice-aggregate-unfilled-length c = search by-laws
 unfilled-length-requires : tie.Need-unfilled-length-requires
 unfilled-length-requires c κs = search by-laws
 
-slice-aggregate-unfilled-part : tie.Need-slice-aggregate-unfilled-part
-slice-aggregate-unfilled-part c = search by-laws
+sub-filled-id : tie.Need-sub-filled-id
+sub-filled-id c = search by-laws
 
-unfilled-part-requires : tie.Need-unfilled-part-requires
-unfilled-part-requires c κs = search by-laws
+part-filled-id-start : tie.Need-part-filled-id-start
+part-filled-id-start c = search by-laws
+
+part-filled-id-end : tie.Need-part-filled-id-end
+part-filled-id-end c = search by-laws
 
 filled-id-requires : tie.Need-filled-id-requires
 filled-id-requires c κs = search by-laws
 
-mul-t14 : tie.Need-mul-t14
-mul-t14 c = search by-laws
+mul-t13 : tie.Need-mul-t13
+mul-t13 c = search by-laws
 
 returns-3 : tie.Need-returns-3
 returns-3 c = search by-laws
@@ -50,8 +53,9 @@ answer-by-spec =
     text-part-requires
     slice-aggregate-unfilled-length
     unfilled-length-requires
-    slice-aggregate-unfilled-part
-    unfilled-part-requires
+    sub-filled-id
+    part-filled-id-start
+    part-filled-id-end
     filled-id-requires
-    mul-t14
+    mul-t13
     returns-3)
