@@ -49,6 +49,16 @@ module _ (n : ℕ) (s : List ℕ) (fits : length s ≤ n) (bytes : lacks 0 s ≡
       rw filled-is
       (trim-gone isZero s (drop (length s) (zeros n)) (all-drop isZero (length s) (zeros n) (all-zeros n)) ∙ (ap (λ (k : ℕ). take k s) (no-zeros s bytes) ∙ take-length s))
 
+drop-zeros : (k n : ℕ) → drop k (zeros n) ≡ zeros (n - k)
+drop-zeros zero n = let z : n - 0 ≡ n = omega arith in rw z
+drop-zeros (suc k) zero = let z : 0 - suc k ≡ 0 = omega arith in rw z
+drop-zeros (suc k) (suc n) = let z : suc n - suc k ≡ n - k = omega arith in rw z (drop-zeros k n)
+
+-- what is filled up has zeros after it
+pub filled-out : (n : ℕ) (s : List ℕ) → length s ≤ n → filled n s ≡ s ++ zeros (n - length s)
+unfolding filled wroteFront
+filled-out n s h = rw (le-leb (length s) (length (zeros n)) (omega (arith, h, length-replicate {A = ℕ} n 0)), drop-zeros (length s) n)
+
 -- no byte of pieces and of what joins them
 all-between : (q : ℕ → Bool) (b : ℕ) → q b ≡ true → (ps : List (List ℕ)) → all (all q) ps ≡ true → all q (join b ps) ≡ true
 unfolding all join

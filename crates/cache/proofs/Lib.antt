@@ -9,3 +9,5 @@ pub mod Single
 pub mod Steps
 pub mod Independence
 pub mod Shared
+pub mod Exactly
+pub mod Worked

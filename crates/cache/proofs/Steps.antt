@@ -159,7 +159,7 @@ module _ (m : Memory) (sound : Sound m) (clock : ℕ) (d i p : List ℕ) where
     unfolding after tableAfter textsAfter unlessRefused
     after-is = rw accepted
 
-    holds : contents (after call m .table) (after call m .texts) ≡ set c k (some (given clock d i p))
+    pub holds : contents (after call m .table) (after call m .texts) ≡ set c k (some (given clock d i p))
     holds = rw after-is (stored clock d i p good k x in-64 (sound .texts-size) t (sound .table-size))
 
     pub stored-sound : Sound (after call m)
@@ -224,7 +224,7 @@ text-is e text h q = go (isAccepted e text) q
     go true g = cc
     go false g = never cc
 
-live-held : (clock : ℕ) (o : Option Held) (h : Held) → ifLive clock o ≡ some h → o ≡ some h
+pub live-held : (clock : ℕ) (o : Option Held) (h : Held) → ifLive clock o ≡ some h → o ≡ some h
 unfolding ifLive
 live-held clock none h q = never cc
 live-held clock (some k) h q = go (isLiveAt clock k) q
@@ -244,7 +244,7 @@ unfolding textAt
 entry-text x k e text g = ap (λ (s : List ℕ). take (length s) (drop (textPlace k) x)) (sym g) ∙ (take-own (e .length) (drop (textPlace k) x) ∙ g)
 
 -- the text handed back is the policy's
-handed-text : (t : List CacheEntry) (x : List ℕ) (k : ℕ) (h : Held) → getD (contents t x) k none ≡ some h → take (length (h .text)) (drop (textPlace k) x) ≡ h .text
+pub handed-text : (t : List CacheEntry) (x : List ℕ) (k : ℕ) (h : Held) → getD (contents t x) k none ≡ some h → take (length (h .text)) (drop (textPlace k) x) ≡ h .text
 handed-text t x k h q = go (ltb k (length t)) refl
   where
     go : (b : Bool) → ltb k (length t) ≡ b → take (length (h .text)) (drop (textPlace k) x) ≡ h .text

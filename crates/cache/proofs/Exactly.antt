@@ -1,0 +1,336 @@
+-- Each number is answered exactly where document 02, No. 1, says, and each field of an answer and of an entry is the one that it says: the numbers and limits stand here once more, as
+-- literals. Assumes nothing.
+use Prim.Native.Nat.{ℕ, _-_, _*_}
+use mathlib.Core.Path.{_≡_, refl, sym, ap, _∙_}
+use mathlib.Core.Bool.{Bool, true, false, cond, not, _&&_, _||_}
+use mathlib.Core.List.{List, [], _∷_, _++_}
+use mathlib.Core.Logic.{_⊎_, inl, inr}
+use mathlib.Core.Option.{Option, none, some}
+use lib.Dec.{eqb, leb, ltb}
+use lib.ListN.{length, getD}
+use Rattle.lists.specs.Bytes.{any}
+use Rattle.lists.specs.Place.{firstPlace}
+use Rattle.lists.specs.Check.{refusalOf}
+use Rattle.lists.proofs.Bools.{apart}
+use Rattle.lists.proofs.Place.{first-any}
+use Rattle.names.specs.Name.{isName}
+use Rattle.names.proofs.Cover.{name-short}
+use Rattle.clock.specs.Clock.{isReading}
+use Rattle.policies.specs.Policy.{policyAnswer, refused}
+use Rattle.policies.specs.declared.PolicyAnswer.{PolicyAnswer}
+use Rattle.policies.proofs.Sanity.{answer-table}
+use Rattle.txt.specs.Paper.{isId}
+use Rattle.writing.specs.Answer.{answerUnless}
+use Rattle.cache.specs.declared.CacheEntry.{CacheEntry}
+use Rattle.cache.specs.declared.CacheAnswer.{CacheAnswer}
+use Rattle.cache.specs.Held.{Held, textPlace, zeros, filled, isPolicy, contents}
+use Rattle.cache.specs.Store.{isOwn, isEmpty, isStale, elsePlace, ownPlace, storePlace, sizesFit, argumentChecks, storeChecks, storeRefusal, entryFor, storeAnswer}
+use Rattle.cache.specs.Lookup.{ifLive, liveFor, onlyNumber, foundAt, clockAndName, lookupRefusal, refusedOr, lookupAnswer, handedBack}
+use Rattle.cache.proofs.Fill.{filled-out, id-short}
+use Rattle.cache.proofs.Stored.{held-length}
+use Rattle.cache.proofs.Steps.{handed-text, live-held}
+
+-- ---- a policy's number is 7, 50, 51 or 52
+policy-not : (p : List ℕ) (n : ℕ) → eqb 7 n ≡ false → eqb 50 n ≡ false → eqb 51 n ≡ false → eqb 52 n ≡ false → eqb (policyAnswer p .number) n ≡ false
+policy-not p n a b c d = go (answer-table p)
+  where
+    go : (policyAnswer p .number ≡ 7) ⊎ (policyAnswer p ≡ refused 50) ⊎ (policyAnswer p ≡ refused 51) ⊎ (policyAnswer p ≡ refused 52) → eqb (policyAnswer p .number) n ≡ false
+    go (inl e) = ap (λ (k : ℕ). eqb k n) e ∙ a
+    go (inr (inl e)) = ap (λ (r : PolicyAnswer). eqb (r .number) n) e ∙ b
+    go (inr (inr (inl e))) = ap (λ (r : PolicyAnswer). eqb (r .number) n) e ∙ c
+    go (inr (inr (inr e))) = ap (λ (r : PolicyAnswer). eqb (r .number) n) e ∙ d
+
+-- ---- there is a place exactly where an entry is the domain's own, or empty, or stale by then
+pub place-exactly : (clock : ℕ) (d : List ℕ) (c : List (Option Held)) → ltb (storePlace clock d c) (length c) ≡ (any (isOwn d) c || any isEmpty c || any (isStale clock) c)
+unfolding storePlace elsePlace
+place-exactly clock d c = rw (sym (first-any (isOwn d) c), sym (first-any isEmpty c), sym (first-any (isStale clock) c)) (go (ltb (ownPlace d c) (length c)) refl (ltb (firstPlace isEmpty c) (length c)) refl)
+  where
+    go : (a : Bool) → ltb (ownPlace d c) (length c) ≡ a → (b : Bool) → ltb (firstPlace isEmpty c) (length c) ≡ b
+        → ltb (cond a (ownPlace d c) (cond b (firstPlace isEmpty c) (firstPlace (isStale clock) c))) (length c) ≡ (a || b || ltb (firstPlace (isStale clock) c) (length c))
+    go true e b f = e
+    go false e true f = f
+    go false e false f = refl
+
+-- ---- the order of a store's refusals, and each number in it
+abbrev inOrder : (a b c e g h k : Bool) → ℕ → ℕ
+inOrder a b c e g h k q = cond a (cond b (cond c (cond e (cond g (cond h (cond k 15 70) 71) q) 80) 60) 62) 74
+
+at-74 : (a b c e g h k : Bool) (q : ℕ) → eqb q 74 ≡ false → eqb (inOrder a b c e g h k q) 74 ≡ not a
+at-74 false b c e g h k q z = refl
+at-74 true false c e g h k q z = refl
+at-74 true true false e g h k q z = refl
+at-74 true true true false g h k q z = refl
+at-74 true true true true false h k q z = z
+at-74 true true true true true false k q z = refl
+at-74 true true true true true true false q z = refl
+at-74 true true true true true true true q z = refl
+
+at-62 : (a b c e g h k : Bool) (q : ℕ) → eqb q 62 ≡ false → eqb (inOrder a b c e g h k q) 62 ≡ (a && not b)
+at-62 false b c e g h k q z = refl
+at-62 true false c e g h k q z = refl
+at-62 true true false e g h k q z = refl
+at-62 true true true false g h k q z = refl
+at-62 true true true true false h k q z = z
+at-62 true true true true true false k q z = refl
+at-62 true true true true true true false q z = refl
+at-62 true true true true true true true q z = refl
+
+at-60 : (a b c e g h k : Bool) (q : ℕ) → eqb q 60 ≡ false → eqb (inOrder a b c e g h k q) 60 ≡ (a && (b && not c))
+at-60 false b c e g h k q z = refl
+at-60 true false c e g h k q z = refl
+at-60 true true false e g h k q z = refl
+at-60 true true true false g h k q z = refl
+at-60 true true true true false h k q z = z
+at-60 true true true true true false k q z = refl
+at-60 true true true true true true false q z = refl
+at-60 true true true true true true true q z = refl
+
+at-80 : (a b c e g h k : Bool) (q : ℕ) → eqb q 80 ≡ false → eqb (inOrder a b c e g h k q) 80 ≡ (a && (b && (c && not e)))
+at-80 false b c e g h k q z = refl
+at-80 true false c e g h k q z = refl
+at-80 true true false e g h k q z = refl
+at-80 true true true false g h k q z = refl
+at-80 true true true true false h k q z = z
+at-80 true true true true true false k q z = refl
+at-80 true true true true true true false q z = refl
+at-80 true true true true true true true q z = refl
+
+at-71 : (a b c e g h k : Bool) (q : ℕ) → eqb q 71 ≡ false → eqb (inOrder a b c e g h k q) 71 ≡ (a && (b && (c && (e && (g && not h)))))
+at-71 false b c e g h k q z = refl
+at-71 true false c e g h k q z = refl
+at-71 true true false e g h k q z = refl
+at-71 true true true false g h k q z = refl
+at-71 true true true true false h k q z = z
+at-71 true true true true true false k q z = refl
+at-71 true true true true true true false q z = refl
+at-71 true true true true true true true q z = refl
+
+at-70 : (a b c e g h k : Bool) (q : ℕ) → eqb q 70 ≡ false → eqb (inOrder a b c e g h k q) 70 ≡ (a && (b && (c && (e && (g && (h && not k))))))
+at-70 false b c e g h k q z = refl
+at-70 true false c e g h k q z = refl
+at-70 true true false e g h k q z = refl
+at-70 true true true false g h k q z = refl
+at-70 true true true true false h k q z = z
+at-70 true true true true true false k q z = refl
+at-70 true true true true true true false q z = refl
+at-70 true true true true true true true q z = refl
+
+at-15 : (a b c e g h k : Bool) (q : ℕ) → eqb q 15 ≡ false → eqb (inOrder a b c e g h k q) 15 ≡ (a && (b && (c && (e && (g && (h && k))))))
+at-15 false b c e g h k q z = refl
+at-15 true false c e g h k q z = refl
+at-15 true true false e g h k q z = refl
+at-15 true true true false g h k q z = refl
+at-15 true true true true false h k q z = z
+at-15 true true true true true false k q z = refl
+at-15 true true true true true true false q z = refl
+at-15 true true true true true true true q z = refl
+
+at-policy : (n : ℕ) → eqb 74 n ≡ false → eqb 62 n ≡ false → eqb 60 n ≡ false → eqb 80 n ≡ false → eqb 71 n ≡ false → eqb 70 n ≡ false → eqb 15 n ≡ false
+    → (a b c e g h k : Bool) (q : ℕ) → eqb (inOrder a b c e g h k q) n ≡ (a && (b && (c && (e && (not g && eqb q n)))))
+at-policy n o p r s t u v false b c e g h k q = o
+at-policy n o p r s t u v true false c e g h k q = p
+at-policy n o p r s t u v true true false e g h k q = r
+at-policy n o p r s t u v true true true false g h k q = s
+at-policy n o p r s t u v true true true true false h k q = refl
+at-policy n o p r s t u v true true true true true false k q = t
+at-policy n o p r s t u v true true true true true true false q = u
+at-policy n o p r s t u v true true true true true true true q = v
+
+-- ---- a store
+module _ (clock : ℕ) (d i p : List ℕ) (t : List CacheEntry) (x : List ℕ) where
+  abbrev c : List (Option Held)
+  c = contents t x
+
+  -- table and buffer have their sizes
+  abbrev sizes : Bool
+  sizes = eqb (length t) 64 && eqb (length x) 65536
+
+  -- the policy's text has room in an entry
+  abbrev short : Bool
+  short = leb (length p) 1024
+
+  -- an entry is the domain's own, or empty, or stale by then
+  abbrev taken : Bool
+  taken = any (isOwn d) c || any isEmpty c || any (isStale clock) c
+
+  abbrev number : ℕ
+  number = storeAnswer clock d i p t x .number
+
+  -- the number, in the order 74, 62, 60, 80, 50 to 52, 71, 70; else 15
+  pub store-number : number ≡ inOrder sizes (isReading clock) (isName d) (isId i) (isPolicy p) short taken (policyAnswer p .number)
+  unfolding storeAnswer answerUnless storeRefusal storeChecks argumentChecks refusalOf sizesFit
+  store-number =
+      go sizes (isReading clock) (isName d) (isId i) (isPolicy p) short (ltb (storePlace clock d c) (length t))
+      ∙ ap (λ (k : Bool). inOrder sizes (isReading clock) (isName d) (isId i) (isPolicy p) short k (policyAnswer p .number)) (ap (ltb (storePlace clock d c)) (sym (held-length x 0 t)) ∙ place-exactly clock d c)
+    where
+      go : (a b e f g h k : Bool)
+          → answerUnless (cond a (cond b (cond e (cond f (cond g (cond h (cond k none (some 70)) (some 71)) (some (policyAnswer p .number))) (some 80)) (some 60)) (some 62)) (some 74)) 0 .number
+          ≡ inOrder a b e f g h k (policyAnswer p .number)
+      go false b e f g h k = refl
+      go true false e f g h k = refl
+      go true true false f g h k = refl
+      go true true true false g h k = refl
+      go true true true true false h k = refl
+      go true true true true true false k = refl
+      go true true true true true true false = refl
+      go true true true true true true true = refl
+
+  pub exactly-74 : eqb number 74 ≡ not sizes
+  exactly-74 = ap (λ (k : ℕ). eqb k 74) store-number ∙ at-74 sizes (isReading clock) (isName d) (isId i) (isPolicy p) short taken (policyAnswer p .number) (policy-not p 74 refl refl refl refl)
+
+  pub exactly-62 : eqb number 62 ≡ (sizes && not (isReading clock))
+  exactly-62 = ap (λ (k : ℕ). eqb k 62) store-number ∙ at-62 sizes (isReading clock) (isName d) (isId i) (isPolicy p) short taken (policyAnswer p .number) (policy-not p 62 refl refl refl refl)
+
+  pub exactly-60 : eqb number 60 ≡ (sizes && ((isReading clock) && not (isName d)))
+  exactly-60 = ap (λ (k : ℕ). eqb k 60) store-number ∙ at-60 sizes (isReading clock) (isName d) (isId i) (isPolicy p) short taken (policyAnswer p .number) (policy-not p 60 refl refl refl refl)
+
+  pub exactly-80 : eqb number 80 ≡ (sizes && ((isReading clock) && ((isName d) && not (isId i))))
+  exactly-80 = ap (λ (k : ℕ). eqb k 80) store-number ∙ at-80 sizes (isReading clock) (isName d) (isId i) (isPolicy p) short taken (policyAnswer p .number) (policy-not p 80 refl refl refl refl)
+
+  pub exactly-71 : eqb number 71 ≡ (sizes && ((isReading clock) && ((isName d) && ((isId i) && ((isPolicy p) && not short)))))
+  exactly-71 = ap (λ (k : ℕ). eqb k 71) store-number ∙ at-71 sizes (isReading clock) (isName d) (isId i) (isPolicy p) short taken (policyAnswer p .number) (policy-not p 71 refl refl refl refl)
+
+  pub exactly-70 : eqb number 70 ≡ (sizes && ((isReading clock) && ((isName d) && ((isId i) && ((isPolicy p) && (short && not taken))))))
+  exactly-70 = ap (λ (k : ℕ). eqb k 70) store-number ∙ at-70 sizes (isReading clock) (isName d) (isId i) (isPolicy p) short taken (policyAnswer p .number) (policy-not p 70 refl refl refl refl)
+
+  pub exactly-15 : eqb number 15 ≡ (sizes && ((isReading clock) && ((isName d) && ((isId i) && ((isPolicy p) && (short && taken))))))
+  exactly-15 = ap (λ (k : ℕ). eqb k 15) store-number ∙ at-15 sizes (isReading clock) (isName d) (isId i) (isPolicy p) short taken (policyAnswer p .number) (policy-not p 15 refl refl refl refl)
+
+  pub exactly-50 : eqb number 50 ≡ (sizes && ((isReading clock) && ((isName d) && ((isId i) && (not (isPolicy p) && eqb (policyAnswer p .number) 50)))))
+  exactly-50 = ap (λ (k : ℕ). eqb k 50) store-number ∙ at-policy 50 refl refl refl refl refl refl refl sizes (isReading clock) (isName d) (isId i) (isPolicy p) short taken (policyAnswer p .number)
+
+  pub exactly-51 : eqb number 51 ≡ (sizes && ((isReading clock) && ((isName d) && ((isId i) && (not (isPolicy p) && eqb (policyAnswer p .number) 51)))))
+  exactly-51 = ap (λ (k : ℕ). eqb k 51) store-number ∙ at-policy 51 refl refl refl refl refl refl refl sizes (isReading clock) (isName d) (isId i) (isPolicy p) short taken (policyAnswer p .number)
+
+  pub exactly-52 : eqb number 52 ≡ (sizes && ((isReading clock) && ((isName d) && ((isId i) && (not (isPolicy p) && eqb (policyAnswer p .number) 52)))))
+  exactly-52 = ap (λ (k : ℕ). eqb k 52) store-number ∙ at-policy 52 refl refl refl refl refl refl refl sizes (isReading clock) (isName d) (isId i) (isPolicy p) short taken (policyAnswer p .number)
+
+  -- a store has no output
+  pub store-length : storeAnswer clock d i p t x .length ≡ 0
+  unfolding storeAnswer answerUnless
+  store-length = go (storeRefusal clock d i p t x)
+    where
+      go : (o : Option ℕ) → answerUnless o 0 .length ≡ 0
+      go none = refl
+      go (some r) = refl
+
+-- ---- the entry that a store writes: domain and id filled up with zeros to 253 and 32 bytes
+module _ (clock : ℕ) (d i p : List ℕ) where
+  pub entry-domain : isName d ≡ true → entryFor clock d i p .domain ≡ d ++ zeros (253 - length d)
+  unfolding entryFor
+  entry-domain h = filled-out 253 d (name-short d h)
+
+  pub entry-id : isId i ≡ true → entryFor clock d i p .id ≡ i ++ zeros (32 - length i)
+  unfolding entryFor
+  entry-id h = filled-out 32 i (id-short i h)
+
+  pub entry-numbers : (entryFor clock d i p .fetched ≡ clock) × (entryFor clock d i p .length ≡ length p)
+  unfolding entryFor
+  entry-numbers = (refl, refl)
+
+-- an entry's text stands at 1,024 times its place
+pub text-place : (k : ℕ) → textPlace k ≡ 1024 * k
+unfolding textPlace
+text-place k = refl
+
+-- ---- a lookup: the number, in the order 74, 62, 60, 72; else 15
+unfoldable pub isSome : Option Held → Bool
+isSome none = false
+isSome (some h) = true
+
+module _ (clock : ℕ) (d : List ℕ) (t : List CacheEntry) (x : List ℕ) where
+  abbrev answer : CacheAnswer
+  answer = lookupAnswer clock d t x
+
+  -- the domain's live policy
+  abbrev live : Option Held
+  live = liveFor clock d (contents t x)
+
+  abbrev has : Bool
+  has = isSome live
+
+  abbrev sized : Bool
+  sized = eqb (length t) 64 && eqb (length x) 65536
+
+  pub lookup-number : answer .number ≡ cond sized (cond (isReading clock) (cond (isName d) (cond has 15 72) 60) 62) 74
+  unfolding lookupAnswer lookupRefusal clockAndName refusalOf sizesFit refusedOr onlyNumber foundAt isSome
+  lookup-number = go sized (isReading clock) (isName d) live
+    where
+      go : (a b c : Bool) (o : Option Held)
+          → refusedOr (cond a (cond b (cond c none (some 60)) (some 62)) (some 74)) (foundAt (ownPlace d (contents t x)) o) .number ≡ cond a (cond b (cond c (cond (isSome o) 15 72) 60) 62) 74
+      go false b c o = refl
+      go true false c o = refl
+      go true true false o = refl
+      go true true true none = refl
+      go true true true (some h) = refl
+
+  pub looks-74 : eqb (answer .number) 74 ≡ not sized
+  looks-74 = ap (λ (k : ℕ). eqb k 74) lookup-number ∙ go sized (isReading clock) (isName d) has
+    where
+      go : (a b c f : Bool) → eqb (cond a (cond b (cond c (cond f 15 72) 60) 62) 74) 74 ≡ not a
+      go false b c f = refl
+      go true false c f = refl
+      go true true false f = refl
+      go true true true false = refl
+      go true true true true = refl
+
+  pub looks-62 : eqb (answer .number) 62 ≡ (sized && not (isReading clock))
+  looks-62 = ap (λ (k : ℕ). eqb k 62) lookup-number ∙ go sized (isReading clock) (isName d) has
+    where
+      go : (a b c f : Bool) → eqb (cond a (cond b (cond c (cond f 15 72) 60) 62) 74) 62 ≡ (a && not b)
+      go false b c f = refl
+      go true false c f = refl
+      go true true false f = refl
+      go true true true false = refl
+      go true true true true = refl
+
+  pub looks-60 : eqb (answer .number) 60 ≡ (sized && ((isReading clock) && not (isName d)))
+  looks-60 = ap (λ (k : ℕ). eqb k 60) lookup-number ∙ go sized (isReading clock) (isName d) has
+    where
+      go : (a b c f : Bool) → eqb (cond a (cond b (cond c (cond f 15 72) 60) 62) 74) 60 ≡ (a && (b && not c))
+      go false b c f = refl
+      go true false c f = refl
+      go true true false f = refl
+      go true true true false = refl
+      go true true true true = refl
+
+  pub looks-72 : eqb (answer .number) 72 ≡ (sized && ((isReading clock) && ((isName d) && not has)))
+  looks-72 = ap (λ (k : ℕ). eqb k 72) lookup-number ∙ go sized (isReading clock) (isName d) has
+    where
+      go : (a b c f : Bool) → eqb (cond a (cond b (cond c (cond f 15 72) 60) 62) 74) 72 ≡ (a && (b && (c && not f)))
+      go false b c f = refl
+      go true false c f = refl
+      go true true false f = refl
+      go true true true false = refl
+      go true true true true = refl
+
+  pub looks-15 : eqb (answer .number) 15 ≡ (sized && ((isReading clock) && ((isName d) && has)))
+  looks-15 = ap (λ (k : ℕ). eqb k 15) lookup-number ∙ go sized (isReading clock) (isName d) has
+    where
+      go : (a b c f : Bool) → eqb (cond a (cond b (cond c (cond f 15 72) 60) 62) 74) 15 ≡ (a && (b && (c && f)))
+      go false b c f = refl
+      go true false c f = refl
+      go true true false f = refl
+      go true true true false = refl
+      go true true true true = refl
+
+  -- every other field is zero where nothing is found
+  pub looks-zero : eqb (answer .number) 15 ≡ false → answer ≡ record { number = answer .number; length = 0; «text_start» = 0; «text_length» = 0; fetched = 0; «id_length» = 0; id = zeros 32 }
+  unfolding lookupAnswer refusedOr onlyNumber foundAt
+  looks-zero = go (lookupRefusal clock d (length t) (length x)) live
+    where
+      go : (r : Option ℕ) (o : Option Held) → eqb (refusedOr r (foundAt (ownPlace d (contents t x)) o) .number) 15 ≡ false
+          → refusedOr r (foundAt (ownPlace d (contents t x)) o) ≡ record { number = refusedOr r (foundAt (ownPlace d (contents t x)) o) .number; length = 0; «text_start» = 0; «text_length» = 0; fetched = 0; «id_length» = 0; id = zeros 32 }
+      go (some r) o h = refl
+      go none none h = refl
+      go none (some y) h = apart (sym h)
+
+  -- where a policy is found its text is a part of the buffer, and the other fields are the entry's
+  pub looks-found : (h : Held) → lookupRefusal clock d (length t) (length x) ≡ none → live ≡ some h
+      → (answer ≡ record { number = 15; length = 0; «text_start» = 1024 * ownPlace d (contents t x); «text_length» = length (h .text); fetched = h .fetched; «id_length» = length (h .id); id = filled 32 (h .id) })
+      × (handedBack answer x ≡ h .text)
+  unfolding lookupAnswer refusedOr foundAt handedBack textPlace liveFor
+  looks-found h r e = (rw (r, e), rw (r, e) (handed-text t x (ownPlace d (contents t x)) h (live-held clock (getD (contents t x) (ownPlace d (contents t x)) none) h (live-is h e))))
+    where
+      live-is : (h : Held) → live ≡ some h → ifLive clock (getD (contents t x) (ownPlace d (contents t x)) none) ≡ some h
+      live-is h e = e
