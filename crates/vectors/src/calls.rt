@@ -1,9 +1,10 @@
 // The calls of the library that a case can make. A new call is a function here, named in `run`: it asks that the line's
 // fields be of the right kinds (w a word, n a number, b bytes, = the sign `=>`), makes the call and compares the answers.
-// The facts of a host are given by name: facts.rt.
+// The facts of a host are given by name: facts.rt. The calls on a cache go on from what the lines before them left: history.rt.
 use crate::facts;
 use crate::facts::Found;
 use crate::line::Fields;
+use crate::line::MOST_FIELDS;
 use crate::line::bytes_at;
 use crate::line::has_kinds_at;
 use crate::line::name;
@@ -11,11 +12,13 @@ use crate::line::number_at;
 use libc::STDOUT_FILENO;
 use txt::TxtAnswer;
 
-// What a case came to. Where it differs, a line that says so has been written.
+// What a line came to. Where a case differs, a line that says so has been written.
 pub enum Outcome {
     Passed,
     Differs,
     Unreadable,
+    // a line that is no case, but prepares those after it
+    SetUp,
 }
 
 // The numbers of an answer, in the order of its struct, and zeros after them.
@@ -83,7 +86,7 @@ fn compared_txt(s: &[u8], f: Fields, r: TxtAnswer, output: &[u8]) -> Outcome {
     }
     compared(
         name(s, f),
-        answer_of(3, number_at(f, 6), number_at(f, 7), number_at(f, 8), 0),
+        expected_at(f, 6, 3),
         answer_of(3, r.number, r.id_start, r.id_length, 0),
     )
 }
@@ -95,13 +98,7 @@ fn read_policy(s: &[u8], f: Fields) -> Outcome {
     let r = tweedstork::tweedstork_read_policy(bytes_at(s, f, 2));
     compared(
         name(s, f),
-        answer_of(
-            4,
-            number_at(f, 4),
-            number_at(f, 5),
-            number_at(f, 6),
-            number_at(f, 7),
-        ),
+        expected_at(f, 4, 4),
         answer_of(4, r.number, r.mode, r.lifetime, r.mx_count),
     )
 }
@@ -115,7 +112,7 @@ fn judge_host(s: &[u8], f: Fields, d: Fields) -> Outcome {
     if !has_kinds_at(f, n - 3, n, b"=nn") {
         return Outcome::Unreadable;
     }
-    let expected = answer_of(2, number_at(f, n - 2), number_at(f, n - 1), 0, 0);
+    let expected = expected_at(f, n - 2, 2);
     let v = facts::with_facts(s, facts::of_default(s, d), f, n - 3, facts::BY_CASE);
     if v.is_broken {
         return Outcome::Unreadable;
@@ -166,13 +163,29 @@ fn next_host(s: &[u8], f: Fields) -> Outcome {
     let r = tweedstork::tweedstork_next_host(number_at(f, 2), bytes_at(s, f, 3), bytes_at(s, f, 4));
     compared(
         name(s, f),
-        answer_of(2, number_at(f, 6), number_at(f, 7), 0, 0),
+        expected_at(f, 6, 2),
         answer_of(2, r.number, r.position, 0, 0),
     )
 }
 
+// The answer that a line asks for: so many numbers from field k on. No other numbers follow them, so that the rest is 0.
+pub(crate) fn expected_at(f: Fields, k: usize, count: usize) -> Answer {
+    if k >= MOST_FIELDS {
+        return answer_of(count, 0, 0, 0, 0);
+    }
+    Answer {
+        count: count,
+        numbers: [
+            number_at(f, k),
+            number_at(f, k + 1),
+            number_at(f, k + 2),
+            number_at(f, k + 3),
+        ],
+    }
+}
+
 // An answer of so many numbers; the others are 0.
-fn answer_of(count: usize, a: u64, b: u64, c: u64, d: u64) -> Answer {
+pub(crate) fn answer_of(count: usize, a: u64, b: u64, c: u64, d: u64) -> Answer {
     Answer {
         count: count,
         numbers: [a, b, c, d],
@@ -180,7 +193,7 @@ fn answer_of(count: usize, a: u64, b: u64, c: u64, d: u64) -> Answer {
 }
 
 // Compares a case's answers, and says where they differ.
-fn compared(case: &[u8], expected: Answer, got: Answer) -> Outcome {
+pub(crate) fn compared(case: &[u8], expected: Answer, got: Answer) -> Outcome {
     let a = expected.numbers;
     let b = got.numbers;
     if a[0] == b[0] && a[1] == b[1] && a[2] == b[2] && a[3] == b[3] {

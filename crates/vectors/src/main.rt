@@ -2,9 +2,11 @@
 // give. Writes a line for each case that fails, and last how many passed and how many failed.
 mod calls;
 mod facts;
+mod history;
 mod line;
 
 use calls::Outcome;
+use history::Cache;
 use libc::STDOUT_FILENO;
 use line::Fields;
 use line::bytes_at;
@@ -21,11 +23,12 @@ pub struct Count {
     pub failed: u64,
 }
 
-// What has come of a file up to a line: the count, and where the default that holds stands in its text.
+// What has come of a file up to a line: the count, where the default that holds stands in its text, and the cache but for its texts.
 pub struct Progress {
     pub count: Count,
     pub default_start: usize,
     pub default_end: usize,
+    pub cache: Cache,
 }
 
 fn main() {
@@ -38,6 +41,8 @@ fn main() {
     let c = run_file(b"judge_host.cases", c);
     let c = run_file(b"judge_host_limits.cases", c);
     let c = run_file(b"next_host.cases", c);
+    let c = run_file(b"cache.cases", c);
+    let c = run_file(b"cache_limits.cases", c);
     io::print_decimal(STDOUT_FILENO, c.passed);
     io::write_all(STDOUT_FILENO, b" passed, ");
     io::print_decimal(STDOUT_FILENO, c.failed);
@@ -59,26 +64,35 @@ fn run_file(path: &[u8], c: Count) -> Count {
         return unreadable(path, c);
     }
     let mut room = [0u8; LINE_ROOM];
-    run_lines(&text[..n], &mut room, c)
+    let mut texts = [0u8; history::TEXTS_ROOM];
+    run_lines(&text[..n], &mut room, &mut texts, c)
 }
 
-fn run_lines(text: &[u8], room: &mut [u8], before: Count) -> Count {
+fn run_lines(text: &[u8], room: &mut [u8], texts: &mut [u8], before: Count) -> Count {
     let mut p = Progress {
         count: before,
         default_start: 0,
         default_end: 0,
+        cache: history::empty(0, 0),
     };
     let mut at = 0;
     while at < text.len() {
         let end = bytes::scan::find(text, at, text.len(), b'\n');
-        p = with_line(p, text, at, end, room);
+        p = with_line(p, text, at, end, room, texts);
         at = end + 1;
     }
     p.count
 }
 
 // What has come of a file after the line text[at..end]. An empty line and one that begins with `#` are no case.
-fn with_line(p: Progress, text: &[u8], at: usize, end: usize, room: &mut [u8]) -> Progress {
+fn with_line(
+    p: Progress,
+    text: &[u8],
+    at: usize,
+    end: usize,
+    room: &mut [u8],
+    texts: &mut [u8],
+) -> Progress {
     let line = part(text, at, end);
     if line.len() == 0 {
         return p;
@@ -86,6 +100,7 @@ fn with_line(p: Progress, text: &[u8], at: usize, end: usize, room: &mut [u8]) -
     if line[0] == b'#' {
         return p;
     }
+    let cache = p.cache;
     let d = line::read(part(text, p.default_start, p.default_end), room, 0);
     let f = line::read(line, room, d.end);
     if check::same(bytes_at(room, f, 0), b"default") {
@@ -93,13 +108,17 @@ fn with_line(p: Progress, text: &[u8], at: usize, end: usize, room: &mut [u8]) -
             count: with_default(p.count, room, f),
             default_start: at,
             default_end: end,
+            cache: cache,
         };
     }
-    let outcome = calls::run(room, f, d);
+    let a = history::run(cache, room, f, d, texts);
+    let outcome = a.outcome;
+    let cache = a.cache;
     Progress {
         count: with_outcome(p.count, outcome, line::name(room, f)),
         default_start: p.default_start,
         default_end: p.default_end,
+        cache: cache,
     }
 }
 
@@ -119,6 +138,7 @@ fn with_outcome(c: Count, outcome: Outcome, case: &[u8]) -> Count {
         Outcome::Passed => counted(c, 1, 0),
         Outcome::Differs => counted(c, 0, 1),
         Outcome::Unreadable => unreadable(case, c),
+        Outcome::SetUp => c,
     }
 }
 

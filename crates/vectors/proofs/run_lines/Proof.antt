@@ -7,10 +7,13 @@ use Rattle.vectors.proofs.run_lines.Statement.{statement}
 use Rattle.vectors.proofs.run_lines.Tie as tie
 
 abbrev Inv-loop : tie.InvT-loop
-Inv-loop text room₀ p₀ at₀ room p at = length room ≡ length room₀
+Inv-loop text room₀ texts₀ p₀ at₀ room texts p at = (length room ≡ length room₀) × (length texts ≡ length texts₀)
 
 abbrev μ-loop : tie.MeasureT-loop
-μ-loop text room₀ p₀ at₀ room p at = length text - at
+μ-loop text room₀ texts₀ p₀ at₀ room texts p at = length text - at
+
+empty-requires : tie.Need-empty-requires Inv-loop μ-loop
+empty-requires c κs = search needs
 
 loop-holds : tie.Need-loop-holds Inv-loop μ-loop
 loop-holds c = search needs
@@ -33,6 +36,9 @@ loop-again c = search needs
 same-length : tie.Need-same-length Inv-loop μ-loop
 same-length c = search needs
 
+same-length-2 : tie.Need-same-length-2 Inv-loop μ-loop
+same-length-2 c = search needs
+
 returns : tie.Need-returns Inv-loop μ-loop
 returns c = search needs
 
@@ -42,6 +48,7 @@ run-lines-spec =
     (tie.spec
     Inv-loop
     μ-loop
+    empty-requires
     loop-holds
     find-requires
     with-line-requires
@@ -49,4 +56,5 @@ run-lines-spec =
     loop-less
     loop-again
     same-length
+    same-length-2
     returns)

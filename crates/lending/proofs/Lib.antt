@@ -1,0 +1,2 @@
+mod Part
+pub mod Count
