@@ -31,7 +31,8 @@
  *
  * Conventions
  * - A number is a uint64_t. A byte slice is a pointer and a length; NULL with length 0 is an empty slice. Every length is in
- *   bytes, also that of a list: four times its count.
+ *   bytes, also that of a list: four times its count. Only table_length of a cache counts entries: it is
+ *   TWEEDSTORK_CACHE_ENTRIES and never a sizeof; any other count is refused (74) before an entry is read.
  * - A list of numbers is a byte slice, four bytes each, big-endian (the highest first; tweedstork_put_number writes one).
  *   Left-over bytes get the list's refusal.
  * - A name is ASCII text of 1 to 253 bytes: labels of 1 to 63 letters, digits and hyphens with single dots between, no hyphen at
@@ -40,8 +41,8 @@
  * - An answer is a struct; its first field is the answer number, one of enum tweedstork_number. It is never zero.
  * - A refusal (40 to 80) has zero in every other field, and leaves the memory that you passed as it was, but for 42 (see
  *   tweedstork_read_txt).
- * - No call keeps a pointer, allocates or has state. Calls may run on any number of threads at once, but for a store into a cache:
- *   it is alone with its table and texts.
+ * - No call keeps a pointer, allocates or has state. Calls may run on any number of threads at once, but for a store into a
+ *   cache: it is alone with its table and texts.
  */
 #ifndef TWEEDSTORK_H
 #define TWEEDSTORK_H
@@ -308,8 +309,9 @@ struct tweedstork_policy_answer tweedstork_read_policy(const uint8_t *body, size
 
 /*
  * A cache of policies, in memory that the relay lends: a table of 64 entries and, in a second buffer, 1,024 bytes of policy text
- * for each. All zeros is an empty cache. Store and lookup are all that the relay needs; it may also write table and texts to a
- * file and read them back on the same kind of machine, since whatever stands in them is checked at every call.
+ * for each. All zeros is an empty cache. tweedstork_cache_store and tweedstork_cache_lookup are all that the relay needs. It may
+ * also write table and texts to a file and read them back on the same kind of machine, since whatever stands in them is checked
+ * at every call. That is a check of their form: whoever can write the file decides which policies the relay has.
  */
 enum { TWEEDSTORK_CACHE_ENTRIES = 64, TWEEDSTORK_CACHE_TEXT_ROOM = 1024, TWEEDSTORK_CACHE_TEXTS_SIZE = 65536 };
 
@@ -328,7 +330,7 @@ struct tweedstork_cache_entry {
 /* The archive is built for entries of 304 bytes: elsewhere this does not compile. */
 enum { TWEEDSTORK_CACHE_ENTRY_HAS_304_BYTES = 1 / (sizeof(struct tweedstork_cache_entry) == 304) };
 
-/* The memory of one cache. A static one is all zeros from the start, and so empty. */
+/* The memory of one cache, of about 85 KB. A static one is all zeros from the start, and so empty. */
 struct tweedstork_cache {
     struct tweedstork_cache_entry table[TWEEDSTORK_CACHE_ENTRIES];
     uint8_t texts[TWEEDSTORK_CACHE_TEXTS_SIZE];
@@ -342,16 +344,27 @@ struct tweedstork_write_answer {
 /*
  * Keeps a domain's policy in the cache, with its id and the clock of its fetch.
  *
- * Takes:   clock: of the fetch, which is now. domain: the name that the policy was fetched for. id: of its TXT record.
- *          policy: its body. table, table_length: the entries, and how many there are. texts: the buffer of their texts.
- *          No argument may overlap table or texts: to store again a text that tweedstork_cache_lookup found, copy it first.
- * Answers: TWEEDSTORK_DONE; length is 0. The policy takes the place of the domain's own entry, also of a stale one (domains compare
- *          ignoring ASCII case; of several own entries the first); else of the first entry that counts as empty; else of the
- *          first that is stale by now.
+ * Takes:   clock: of the fetch, which is now. domain: the name that the policy was fetched for. id: of its TXT record. policy:
+ *          its body as fetched; tweedstork_read_policy need not have read it. table, table_length, texts, texts_length: the
+ *          memory that the relay lends. With a struct tweedstork_cache that is called cache they are
+ *
+ *              cache.table, TWEEDSTORK_CACHE_ENTRIES,
+ *              cache.texts, sizeof cache.texts
+ *
+ *          No other argument may overlap table or texts: to store again a text that tweedstork_cache_lookup found, copy it
+ *          first.
+ * Answers: TWEEDSTORK_DONE; length is 0. The policy takes the place of the domain's own entry, also of a stale one (domains
+ *          compare ignoring ASCII case; of several own entries the first); else of the first entry that counts as empty; else
+ *          of the first that is stale by now.
  *
  *          Refusals, in this order: TWEEDSTORK_BAD_SIZE, TWEEDSTORK_BAD_CLOCK, TWEEDSTORK_BAD_NEXT_HOP (the domain is no
  *          name), TWEEDSTORK_BAD_ID, those of tweedstork_read_policy, TWEEDSTORK_CACHE_TEXT_LONG, TWEEDSTORK_CACHE_FULL.
- *          After any of them the relay uses the policy that it fetched; it is only not kept.
+ *          - 70 and 71: the policy is good, and the relay judges this message's hosts by it. But it is not kept, so whoever
+ *            can stop the next fetch switches it off, unless the relay keeps it by other means. After 71 an earlier entry of
+ *            the domain stays, and is found as long as it is live.
+ *          - 50 to 52 are as a fetch that failed: what the cache has for the domain stays, and counts as long as it is live.
+ *          - 62, 74 and 80 are mistakes of the relay's own; so is 60, unless it comes of the recipient's address. None of them
+ *            means that there is no policy: until the mistake is mended, the relay delays.
  * Leaves:  the one entry and the bytes of its text written, in texts from 1024 * its place on; all else as it was. The
  *          domain stands in the entry as it was spelled. A refusal leaves everything as it was.
  */
@@ -374,18 +387,20 @@ struct tweedstork_cache_answer {
 };
 
 /*
- * Finds a domain's live policy in the cache.
+ * Finds the live policy that tweedstork_cache_store kept for a domain.
  *
- * Takes:   clock: now. domain: the name that the policy is for. table, table_length: the entries, and how many there are.
- *          texts: the buffer of their texts.
+ * Takes:   clock: now. domain: the name that the policy is for. table, table_length, texts, texts_length: the memory that the
+ *          relay lends, given as to tweedstork_cache_store.
  * Answers: TWEEDSTORK_DONE with the policy as a part of texts, text_length bytes from text_start on; fetched, the clock of
  *          its fetch, for tweedstork_judge_host; and its id, id_length bytes, to hold against the TXT record's. length is 0.
  *          TWEEDSTORK_CACHE_NOT_FOUND where the domain has no entry, or its entry is stale: of several the first counts, so a
- *          stale one hides a live one behind it.
+ *          stale one hides a live one behind it. Then the relay looks for the policy and fetches it.
  *
  *          Refusals, in this order: TWEEDSTORK_BAD_SIZE, TWEEDSTORK_BAD_CLOCK, TWEEDSTORK_BAD_NEXT_HOP (the domain is no
- *          name), TWEEDSTORK_CACHE_NOT_FOUND.
- * Leaves:  all memory as it was. The next store may overwrite the text that was found.
+ *          name), TWEEDSTORK_CACHE_NOT_FOUND. The first three are mistakes of the relay's own (60 may also come of the
+ *          recipient's address) and never mean that there is no policy.
+ * Leaves:  all memory as it was. The next store, for whatever domain, may overwrite the text that was found: to use it after
+ *          that, copy it first.
  */
 struct tweedstork_cache_answer tweedstork_cache_lookup(
     uint64_t clock,
