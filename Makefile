@@ -74,6 +74,8 @@ c-tests: examples
 	$(OUT)/conveniences
 	@$(CC) $(CFLAGS) $(WARNINGS) $(SANITIZERS) -Iinclude tests/boundary.c $(ARCHIVE) -o $(OUT)/boundary
 	$(OUT)/boundary
+	@$(CC) $(CFLAGS) $(WARNINGS) $(SANITIZERS) -Iinclude tests/cache.c $(ARCHIVE) -o $(OUT)/cache
+	$(OUT)/cache
 	@if pkg-config --exists 'openssl >= 3'; then echo $(OUT)/openssl; \
 	    $(CC) $(CFLAGS) $(WARNINGS) $(SANITIZERS) -Iinclude tests/openssl.c examples/openssl.c $(ARCHIVE) \
 	        $$(pkg-config --cflags --libs openssl) -o $(OUT)/openssl && $(OUT)/openssl; \

@@ -29,7 +29,7 @@ static const struct promise {
     {HOSTS, NULL, 1.5, "hosts of a message",
      "the form of that walk is fixed, arrays of 32 by value with a count: the library reads the lists into arrays and walks those, plain C walks the lists themselves"},
     {DECISIONS, whole_certificate_decision, 1.5, "the decision with a whole certificate (record 3 0 0 of 1.5 KB)",
-     "plain C calls the C library's `memcmp`, chosen by the processor, which compares 32 bytes an instruction; the archive calls nothing outside itself"},
+     "plain C calls the C library's `memcmp`, chosen by the processor, which compares 32 bytes an instruction; the archive doesn't call it"},
 };
 enum { PROMISES = sizeof promises / sizeof promises[0] };
 

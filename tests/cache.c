@@ -204,6 +204,22 @@ static void sized(const char *name, uint64_t number, size_t entries, size_t byte
     expect(name, all_are(0xbb, buffer, bytes));
 }
 
+/* A count of bytes in place of entries is likely; it is answered before an entry is read, so that it runs past no table. */
+static void counted_in_bytes(void)
+{
+    struct tweedstork_cache_entry *some = memory(ENTRIES * sizeof *some);
+    uint8_t *buffer = memory(TEXTS);
+    struct tweedstork_slice domain = at_end(0, text("a.example")), id = at_end(1, text("a1")), policy = at_end(2, text(one));
+    size_t count = ENTRIES * sizeof *some;
+
+    memset(some, 0, count);
+    memset(buffer, 0, TEXTS);
+    expect("a count of bytes, store", tweedstork_cache_store(1500, domain.bytes, domain.length, id.bytes, id.length, policy.bytes, policy.length, some, count, buffer, TEXTS).number == 74);
+    expect("a count of bytes, lookup", tweedstork_cache_lookup(1500, domain.bytes, domain.length, some, count, buffer, TEXTS).number == 74);
+    expect("a count of bytes, table", all_are(0, some, count));
+    expect("a count of bytes, texts", all_are(0, buffer, TEXTS));
+}
+
 /* Sizes come before all else: clock, domain, id and policy are bad as well. */
 static void sizes(void)
 {
@@ -476,6 +492,7 @@ int main(void)
     texts = memory(TEXTS);
     layouts();
     sizes();
+    counted_in_bytes();
     order_of_refusals();
     empty_arguments();
     domains();

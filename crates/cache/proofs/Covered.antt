@@ -37,7 +37,7 @@ use Rattle.cache.specs.declared.CacheAnswer.{CacheAnswer}
 use Rattle.cache.specs.Held.{Held, textPlace, isZero, unfilled, zeros, filled, isPolicy, textAt, fieldsFit, isAccepted, written, heldIn, noEntry}
 use Rattle.cache.specs.Store.{isLiveAt, sizesFit, argumentChecks, entryFor}
 use Rattle.cache.specs.Lookup.{onlyNumber, refusedOr, clockAndName, lookupRefusal}
-use Rattle.cache.specs.Scan.{stateOf, rankIn, foundOf, beginning, firstLetter, sameAfterFirst, sameRest, isSought, better, nextAt, beyond, refusalFor, refusedPlan, planBy, planOf, foundText, answerBy, answerFrom}
+use Rattle.cache.specs.Scan.{stateOf, rankIn, foundOf, beginning, firstLetter, sameAfterFirst, sameRest, isSought, better, startAt, nextAt, beyond, refusalFor, refusedPlan, planBy, planOf, foundText, answerBy, answerFrom}
 
 -- ---- `zeros_by_eight`: a number of eight bytes that is zero has only zeros
 number-zeros : (s : List ℕ) → numberOf s ≡ 0 → all isZero s ≡ true
@@ -278,7 +278,15 @@ module _ (rank i n : ℕ) where
   unfolding nextAt
   next-end h l = rw (lt-ltb 2 rank h, le-ltb i n l)
 
-pub ruleset next-laws = (next-done, next-one, next-end, needs)
+  pub start-done : rank ≤ 2 → n ≡ startAt rank n
+  unfolding startAt
+  start-done h = rw (le-ltb 2 rank h)
+
+  pub start-first : 2 < rank → 0 ≡ startAt rank n
+  unfolding startAt
+  start-first h = rw (lt-ltb 2 rank h)
+
+pub ruleset next-laws = (next-done, next-one, next-end, start-done, start-first, needs)
 
 -- ---- `filled_domain`, `filled_id`, `entry_for`, `beyond`, `refused_plan`, `nothing_found`, `only_number`
 pub filled-is : (n : ℕ) (s r : List ℕ) → r ≡ wroteFront s (zeros n) → r ≡ filled n s

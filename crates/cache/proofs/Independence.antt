@@ -25,7 +25,7 @@ use Rattle.cache.proofs.Steps.{Sound, liveIn, sound-empty, sound-after,
 -- the text of an answer
 abbrev textOf : Answer → List ℕ
 textOf (wrote a) = []
-textOf (found number text textLength fetched idLength id) = text
+textOf (found number length text textLength fetched idLength id) = text
 
 module _ (m : Memory) (s : Sound m) (clock : ℕ) (d i p : List ℕ) (later : ℕ) (e : List ℕ) (other : sameText d e ≡ false) (w : clock ≤ later) where
   abbrev put : Memory

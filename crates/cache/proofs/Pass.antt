@@ -10,7 +10,7 @@ use borrow.Author.Tests.{le-ltb, lt-ltb, ltb-true, ltb-false}
 use Rattle.cache.specs.declared.CacheEntry.{CacheEntry}
 use Rattle.cache.specs.declared.Found.{Found}
 use Rattle.cache.specs.Held.{noEntry}
-use Rattle.cache.specs.Scan.{firstLetter, isSought, better, step, foundFrom, scanned, nextAt}
+use Rattle.cache.specs.Scan.{firstLetter, isSought, better, step, foundFrom, startAt, nextAt}
 use Rattle.cache.proofs.Walk.{entry-next}
 
 module _ (own : Bool) (clock : ℕ) (d x : List ℕ) where
@@ -51,6 +51,15 @@ module _ (own : Bool) (clock : ℕ) (d x : List ℕ) where
       go : (b : Bool) → ltb 2 (s .rank) ≡ b → foundFrom own clock d x (i + 1) s (drop (i + 1) ys) ≡ foundFrom own clock d x (cond b (i + 1) (length ys)) s (drop (cond b (i + 1) (length ys)) ys)
       go true e = refl
       go false e = ended-stays s (ltb-false 2 (s .rank) e) (i + 1) (drop (i + 1) ys) ∙ sym (end-is (length ys) s ys (omega arith))
+
+  -- the beginning
+  pub begin-is : (s : Found) (ys : List CacheEntry) → foundFrom own clock d x 0 s ys ≡ foundFrom own clock d x (startAt (s .rank) (length ys)) s (drop (startAt (s .rank) (length ys)) ys)
+  unfolding startAt
+  begin-is s ys = go (ltb 2 (s .rank)) refl
+    where
+      go : (b : Bool) → ltb 2 (s .rank) ≡ b → foundFrom own clock d x 0 s ys ≡ foundFrom own clock d x (cond b 0 (length ys)) s (drop (cond b 0 (length ys)) ys)
+      go true e = refl
+      go false e = ended-stays s (ltb-false 2 (s .rank) e) 0 ys ∙ sym (end-is (length ys) s ys (omega arith))
 
 -- a pass goes on, and within the table
 pub next-more : (rank i n : ℕ) → i < n → n - nextAt rank i n < n - i

@@ -235,9 +235,9 @@ live-held clock (some k) h q = go (isLiveAt clock k) q
 
 -- what a lookup shows of a live policy, or of none, but for the text's place
 abbrev pub shown : Option ℕ → Option Held → Answer
-shown (some r) o = found r [] 0 0 0 (zeros 32)
-shown none none = found 72 [] 0 0 0 (zeros 32)
-shown none (some h) = found 15 (h .text) (length (h .text)) (h .fetched) (length (h .id)) (filled 32 (h .id))
+shown (some r) o = found r 0 [] 0 0 0 (zeros 32)
+shown none none = found 72 0 [] 0 0 0 (zeros 32)
+shown none (some h) = found 15 0 (h .text) (length (h .text)) (h .fetched) (length (h .id)) (filled 32 (h .id))
 
 entry-text : (x : List ℕ) (k : ℕ) (e : CacheEntry) (text : List ℕ) → textAt x k e ≡ text → take (length text) (drop (textPlace k) x) ≡ text
 unfolding textAt
@@ -277,4 +277,4 @@ module _ (m : Memory) (sound : Sound m) (clock : ℕ) (d : List ℕ) where
       go : (r : Option ℕ) (o : Option Held) → liveIn clock d m ≡ o → placeless (refusedOr r (foundAt k o)) x ≡ shown r o
       go (some r) o e = refl
       go none none e = refl
-      go none (some h) e = ap (λ (s : List ℕ). found 15 s (length (h .text)) (h .fetched) (length (h .id)) (filled 32 (h .id))) (handed-text t x k h (live-held clock (getD (contents t x) k none) h e))
+      go none (some h) e = ap (λ (s : List ℕ). found 15 0 s (length (h .text)) (h .fetched) (length (h .id)) (filled 32 (h .id))) (handed-text t x k h (live-held clock (getD (contents t x) k none) h e))

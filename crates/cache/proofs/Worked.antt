@@ -200,14 +200,14 @@ looks : (clock : ℕ) (d : List ℕ) (m : Memory) → Sound m → (c : List (Opt
 looks clock d m s c e = lookup-shows m s clock d ∙ ap (λ (l : List (Option Held)). shown (refusalOf (clockAndName clock d)) (liveFor clock d l)) e
 
 -- the first domain found its policy until then, and finds nothing from then on; the other finds its own
-pub first-before : answerTo (lookup 1099 (domain 0)) full ≡ found 15 short 39 1000 1 (filled 32 id)
+pub first-before : answerTo (lookup 1099 (domain 0)) full ≡ found 15 0 short 39 1000 1 (filled 32 id)
 unfolding keptAll keptAfter accepts fill storePlace elsePlace firstPlace isOwn isEmpty isStale isLiveAt isPolicy isId all any lowerOf agree sameByte sameLetter spanOf indexOf split toFirst labelByte isLabel isName isStarred isWildcard isPattern cappedAge isReading timeLeft isLive blank trimmedLength letterOrDigit nameByte isFieldName hasName utf8Tail utf8Two utf8Three utf8Four printable isText isValue lines lineStart nameOf valueOf isLine isNamed firstNamed patterns isVersion modeOf isDigit decimalAfter ageOf isThere isFirst causeAfter faultAt orLater firstFault bodyFault modeIn ageIn hasPatterns complete completed judged readBody modeNumber policyTo policyAnswer refusalOf clockAndName liveFor ifLive
 first-before = looks 1099 (domain 0) full full-sound kept full-keeps
 
-pub first-after : answerTo (lookup 1100 (domain 0)) (after call full) ≡ found 72 [] 0 0 0 (zeros 32)
+pub first-after : answerTo (lookup 1100 (domain 0)) (after call full) ≡ found 72 0 [] 0 0 0 (zeros 32)
 unfolding keptAll keptAfter accepts fill storePlace elsePlace firstPlace isOwn isEmpty isStale isLiveAt isPolicy isId all any lowerOf agree sameByte sameLetter spanOf indexOf split toFirst labelByte isLabel isName isStarred isWildcard isPattern cappedAge isReading timeLeft isLive blank trimmedLength letterOrDigit nameByte isFieldName hasName utf8Tail utf8Two utf8Three utf8Four printable isText isValue lines lineStart nameOf valueOf isLine isNamed firstNamed patterns isVersion modeOf isDigit decimalAfter ageOf isThere isFirst causeAfter faultAt orLater firstFault bodyFault modeIn ageIn hasPatterns complete completed judged readBody modeNumber policyTo policyAnswer refusalOf clockAndName liveFor ifLive
 first-after = looks 1100 (domain 0) (after call full) (sound-after full full-sound call) (keptAfter call kept) after-keeps
 
-pub another-after : answerTo (lookup 1100 another) (after call full) ≡ found 15 long 39 1100 1 (filled 32 id)
+pub another-after : answerTo (lookup 1100 another) (after call full) ≡ found 15 0 long 39 1100 1 (filled 32 id)
 unfolding keptAll keptAfter accepts fill storePlace elsePlace firstPlace isOwn isEmpty isStale isLiveAt isPolicy isId all any lowerOf agree sameByte sameLetter spanOf indexOf split toFirst labelByte isLabel isName isStarred isWildcard isPattern cappedAge isReading timeLeft isLive blank trimmedLength letterOrDigit nameByte isFieldName hasName utf8Tail utf8Two utf8Three utf8Four printable isText isValue lines lineStart nameOf valueOf isLine isNamed firstNamed patterns isVersion modeOf isDigit decimalAfter ageOf isThere isFirst causeAfter faultAt orLater firstFault bodyFault modeIn ageIn hasPatterns complete completed judged readBody modeNumber policyTo policyAnswer refusalOf clockAndName liveFor ifLive
 another-after = looks 1100 another (after call full) (sound-after full full-sound call) (keptAfter call kept) after-keeps

@@ -1,6 +1,6 @@
 -- Read this first. Document 02, No. 1: what the lent table and buffer hold. "64 entries, each with domain, id, fetch reading and length (domain and id filled up with
 -- zeros to 253 and 32 bytes ..), and for each entry 1,024 bytes of policy text in a second lent buffer. .. An entry whose length is over 1,024, or whose domain or id
--- (less its final zeros), fetch reading or text wouldn't be accepted, counts as empty." The rules of `Store` and `Lookup` speak of `contents` alone.
+-- (less its final zeros), fetch reading or text wouldn't be accepted, counts as empty." Which entry a store takes and what a lookup finds (`Store`, `Lookup`) goes by `contents` alone.
 use Prim.Native.Nat.{ℕ, _+_, _*_}
 use mathlib.Core.Bool.{Bool, cond, _&&_}
 use mathlib.Core.List.{List, [], _∷_}

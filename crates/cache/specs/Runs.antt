@@ -39,10 +39,10 @@ unfoldable pub domainOf : Call → List ℕ
 domainOf (store clock d i p) = d
 domainOf (lookup clock d) = d
 
--- a call's answer, but for a text's place: for a lookup its number, the text itself with its length, the fetch reading, the id and its length
+-- a call's answer, but for a text's place: for a lookup its number and length, the text itself with its length, the fetch reading, the id and its length
 pub data Answer : Type 0 where
   wrote : WriteAnswer → Answer
-  found : (number : ℕ) (text : List ℕ) (textLength fetched idLength : ℕ) (id : List ℕ) → Answer
+  found : (number length : ℕ) (text : List ℕ) (textLength fetched idLength : ℕ) (id : List ℕ) → Answer
 
 -- the answer to a lookup, and the text that it hands back
 abbrev pub lookupIn : ℕ → List ℕ → Memory → CacheAnswer
@@ -53,7 +53,7 @@ textIn clock d m = handedBack (lookupIn clock d m) (m .texts)
 
 -- a lookup's answer over the buffer x, but for the text's place
 unfoldable pub placeless : CacheAnswer → List ℕ → Answer
-placeless a x = found (a .number) (handedBack a x) (a .«text_length») (a .fetched) (a .«id_length») (a .id)
+placeless a x = found (a .number) (a .length) (handedBack a x) (a .«text_length») (a .fetched) (a .«id_length») (a .id)
 
 -- what a call answers
 unfoldable pub answerTo : Call → Memory → Answer
@@ -92,7 +92,7 @@ answersFor d (k ∷ ks) m = cond (isFor d k) (answerTo k m ∷ answersFor d ks (
 -- the number of an answer
 unfoldable pub numberIn : Answer → ℕ
 numberIn (wrote a) = a .number
-numberIn (found number text textLength fetched idLength id) = number
+numberIn (found number length text textLength fetched idLength id) = number
 
 -- none of the calls is refused with 70
 unfoldable pub noneFull : List Answer → Bool

@@ -74,6 +74,10 @@ foundFrom own clock d x i s (e ∷ t) = foundFrom own clock d x (i + 1) (step ow
 unfoldable pub scanned : Bool → ℕ → List ℕ → Found → List CacheEntry → List ℕ → Found
 scanned own clock d s t x = foundFrom own clock d x 0 s t
 
+-- the position at which a pass begins among n entries: the end, where nothing better can come
+unfoldable pub startAt : ℕ → ℕ → ℕ
+startAt rank n = cond (ltb 2 rank) 0 n
+
 -- the position after i at which a pass goes on among n entries: the end, where nothing better can come
 unfoldable pub nextAt : ℕ → ℕ → ℕ → ℕ
 nextAt rank i n = cond (ltb 2 rank && ltb i n) (i + 1) n

@@ -12,7 +12,7 @@ ghost use Rattle.writing.specs.Over.{over};
 ghost use Rattle.cache.specs.Held.{textPlace, isZero, unfilled, filled, fieldsFit, heldIn, noEntry};
 ghost use Rattle.cache.specs.Store.{entryFor};
 ghost use Rattle.cache.specs.Lookup.{onlyNumber};
-ghost use Rattle.cache.specs.Scan.{stateOf, rankIn, foundOf, beginning, firstLetter, sameAfterFirst, sameRest, isSought, better, scanned, nextAt, beyond, refusedPlan, planOf, answerBy, answerFrom};
+ghost use Rattle.cache.specs.Scan.{stateOf, rankIn, foundOf, beginning, firstLetter, sameAfterFirst, sameRest, isSought, better, scanned, startAt, nextAt, beyond, refusedPlan, planOf, answerBy, answerFrom};
 use clock::Lifetime;
 use clock::Reading;
 
@@ -334,6 +334,16 @@ fn better_at(own: bool, clock: u64, texts: &[u8], s: Found, e: CacheEntry, i: us
     s
 }
 
+// The position at which a pass begins among n entries: the end, where nothing better can come.
+fn start_at(rank: u64, n: usize) -> usize
+    ensures { λ r. ⌜ r ≡ startAt rank n ⌝ }
+{
+    if rank <= 2 {
+        return n;
+    }
+    0
+}
+
 // The position after i at which a pass goes on among n entries: the end, where nothing better can come.
 fn next_at(rank: u64, i: usize, n: usize) -> usize
     ensures { λ r. ⌜ r ≡ nextAt rank i n ⌝ }
@@ -361,7 +371,7 @@ pub fn scan(
 {
     let mut found = start;
     let first = first_letter(domain);
-    let mut i = 0;
+    let mut i = start_at(start.rank, table.len());
     while i < table.len() {
         let sought = is_sought(own, found.rank, first, &table[i].domain, domain);
         if sought {
