@@ -1,20 +1,20 @@
 -- The ways out of the functions on one entry, each from what the code knows there. Assumes nothing.
 use Prim.Native.Nat.{ℕ, zero, suc, _+_, _-_, _*_, _/_, _<_, _≤_}
 use mathlib.Core.Path.{_≡_, refl, sym, ap, _∙_}
-use mathlib.Core.Bool.{Bool, true, false, cond, not, _&&_, and-true, and-false}
+use mathlib.Core.Bool.{Bool, true, false, cond, not}
 use mathlib.Core.List.{List, [], _∷_, _++_}
-use mathlib.Core.Option.{Option, none, some}
+use mathlib.Core.Option.{none, some}
 use native.Mathlib.Omega.{arith}
 use lib.Dec.{eqb, leb, ltb}
 use lib.ListN.{length, getD, take, drop, length-drop, drop-of-length-le}
 use lib.Seq.{take-add, take-all, take-nil}
 use borrow.Author.Needs.{needs}
-use borrow.Author.Tests.{not-true, not-false, le-leb, lt-leb, lt-ltb, le-ltb, eq-eqb, ne-eqb, eqb-true, eqb-false}
+use borrow.Author.Tests.{not-true, not-false, le-leb, lt-leb, lt-ltb, le-ltb, eq-eqb, ne-eqb}
 use Rattle.lists.specs.Bytes.{within, all, lowerOf}
 use Rattle.lists.specs.Equal.{agree, sameLetter, sameBytes, sameText}
 use Rattle.lists.specs.Span.{trimmedLength}
 use Rattle.lists.specs.Check.{refusalOf}
-use Rattle.lists.specs.Words.{numberOf, eightAt, firstEight}
+use Rattle.lists.specs.Words.{numberOf, firstEight}
 use Rattle.lists.specs.Write.{wroteFront}
 use Rattle.lists.proofs.Bools.{and-intro}
 use Rattle.lists.proofs.Agree.{agree-length, same-bytes}
@@ -34,7 +34,7 @@ use Rattle.cache.specs.declared.State.the-variants as S
 use Rattle.cache.specs.declared.Found.{Found}
 use Rattle.cache.specs.declared.Plan.{Plan}
 use Rattle.cache.specs.declared.CacheAnswer.{CacheAnswer}
-use Rattle.cache.specs.Held.{Held, textPlace, isZero, unfilled, zeros, filled, isPolicy, textAt, fieldsFit, isAccepted, written, heldIn, noEntry}
+use Rattle.cache.specs.Held.{textPlace, isZero, unfilled, zeros, filled, isPolicy, textAt, fieldsFit, isAccepted, written, heldIn, noEntry}
 use Rattle.cache.specs.Store.{isLiveAt, sizesFit, argumentChecks, entryFor}
 use Rattle.cache.specs.Lookup.{onlyNumber, refusedOr, clockAndName, lookupRefusal}
 use Rattle.cache.specs.Scan.{stateOf, rankIn, foundOf, beginning, firstLetter, sameAfterFirst, sameRest, isSought, better, startAt, nextAt, beyond, refusalFor, refusedPlan, planBy, planOf, foundText, answerBy, answerFrom}

@@ -1,21 +1,23 @@
 -- Each number is answered exactly where document 02, No. 1, says, and each field of an answer and of an entry is the one that it says: the numbers and limits stand here once more, as
 -- literals. Assumes nothing.
-use Prim.Native.Nat.{ℕ, _-_, _*_}
+use Prim.Native.Nat.{ℕ, _-_, _*_, _<_}
 use mathlib.Core.Path.{_≡_, refl, sym, ap, _∙_}
 use mathlib.Core.Bool.{Bool, true, false, cond, not, _&&_, _||_}
-use mathlib.Core.List.{List, [], _∷_, _++_}
+use mathlib.Core.List.{List, _++_}
 use mathlib.Core.Logic.{_⊎_, inl, inr}
 use mathlib.Core.Option.{Option, none, some}
 use lib.Dec.{eqb, leb, ltb}
 use lib.ListN.{length, getD}
+use borrow.Author.Tests.{leb-true, le-leb, ltb-true, lt-ltb}
 use Rattle.lists.specs.Bytes.{any}
+use Rattle.lists.specs.Equal.{sameText}
 use Rattle.lists.specs.Place.{firstPlace}
 use Rattle.lists.specs.Check.{refusalOf}
-use Rattle.lists.proofs.Bools.{apart}
+use Rattle.lists.proofs.Bools.{apart, and-both}
 use Rattle.lists.proofs.Place.{first-any}
 use Rattle.names.specs.Name.{isName}
-use Rattle.names.proofs.Cover.{name-short}
-use Rattle.clock.specs.Clock.{isReading}
+use Rattle.names.proofs.Cover.{name-short, name-same}
+use Rattle.clock.specs.Clock.{isReading, isLive}
 use Rattle.policies.specs.Policy.{policyAnswer, refused}
 use Rattle.policies.specs.declared.PolicyAnswer.{PolicyAnswer}
 use Rattle.policies.proofs.Sanity.{answer-table}
@@ -24,11 +26,12 @@ use Rattle.writing.specs.Answer.{answerUnless}
 use Rattle.cache.specs.declared.CacheEntry.{CacheEntry}
 use Rattle.cache.specs.declared.CacheAnswer.{CacheAnswer}
 use Rattle.cache.specs.Held.{Held, textPlace, zeros, filled, isPolicy, contents}
-use Rattle.cache.specs.Store.{isOwn, isEmpty, isStale, elsePlace, ownPlace, storePlace, sizesFit, argumentChecks, storeChecks, storeRefusal, entryFor, storeAnswer}
+use Rattle.cache.specs.Store.{isLiveAt, isOwn, isEmpty, isStale, elsePlace, ownPlace, storePlace, sizesFit, argumentChecks, storeChecks, storeRefusal, entryFor, storeAnswer}
 use Rattle.cache.specs.Lookup.{ifLive, liveFor, onlyNumber, foundAt, clockAndName, lookupRefusal, refusedOr, lookupAnswer, handedBack}
 use Rattle.cache.proofs.Fill.{filled-out, id-short}
-use Rattle.cache.proofs.Stored.{held-length}
-use Rattle.cache.proofs.Steps.{handed-text, live-held}
+use Rattle.cache.specs.Runs.{Memory, store, lookup, found, answerTo, after}
+use Rattle.cache.proofs.Stored.{held-length, sizes-are, Good}
+use Rattle.cache.proofs.Steps.{Sized, handed-text, live-held, stored-sized, stored-found, lookup-shows}
 
 -- ---- a policy's number is 7, 50, 51 or 52
 policy-not : (p : List ℕ) (n : ℕ) → eqb 7 n ≡ false → eqb 50 n ≡ false → eqb 51 n ≡ false → eqb 52 n ≡ false → eqb (policyAnswer p .number) n ≡ false
@@ -50,6 +53,20 @@ place-exactly clock d c = rw (sym (first-any (isOwn d) c), sym (first-any isEmpt
     go true e b f = e
     go false e true f = f
     go false e false f = refl
+
+-- and it is the domain's own entry, else an empty one, else one that is stale by then: of each kind the first (`first-passes`, `first-least`)
+module _ (clock : ℕ) (d : List ℕ) (c : List (Option Held)) where
+  pub takes-own : any (isOwn d) c ≡ true → storePlace clock d c ≡ firstPlace (isOwn d) c
+  unfolding storePlace elsePlace
+  takes-own own = rw (first-any (isOwn d) c, own)
+
+  pub takes-empty : any (isOwn d) c ≡ false → any isEmpty c ≡ true → storePlace clock d c ≡ firstPlace isEmpty c
+  unfolding storePlace elsePlace
+  takes-empty own empty = rw (first-any (isOwn d) c, own, first-any isEmpty c, empty)
+
+  pub takes-stale : any (isOwn d) c ≡ false → any isEmpty c ≡ false → storePlace clock d c ≡ firstPlace (isStale clock) c
+  unfolding storePlace elsePlace
+  takes-stale own empty = rw (first-any (isOwn d) c, own, first-any isEmpty c, empty)
 
 -- ---- the order of a store's refusals, and each number in it
 abbrev inOrder : (a b c e g h k : Bool) → ℕ → ℕ
@@ -334,3 +351,52 @@ module _ (clock : ℕ) (d : List ℕ) (t : List CacheEntry) (x : List ℕ) where
     where
       live-is : (h : Held) → live ≡ some h → ifLive clock (getD (contents t x) (ownPlace d (contents t x)) none) ≡ some h
       live-is h e = e
+
+-- ---- what is stored is found: after a store that answers 15, in whatever table, a lookup for its domain, in any spelling, at a clock at which the policy has time left, hands back this
+-- policy, its id, and the store's clock as fetch reading
+module _ (m : Memory) (clock : ℕ) (d i p : List ℕ) (done : storeAnswer clock d i p (m .table) (m .texts) .number ≡ 15) where
+  abbrev t : List CacheEntry
+  t = m .table
+
+  abbrev x : List ℕ
+  x = m .texts
+
+  abbrev place : ℕ
+  place = storePlace clock d (contents t x)
+
+  -- such a store has no refusal
+  record Accepted : Type 0 where
+    sized : Sized m
+    good : Good clock d i p
+    there : place < length t
+
+  accepted : Accepted
+  unfolding sizesFit
+  accepted =
+      let all : (sizes clock d i p t x && (isReading clock && (isName d && (isId i && (isPolicy p && (short clock d i p t x && taken clock d i p t x)))))) ≡ true = sym (exactly-15 clock d i p t x) ∙ ap (λ (k : ℕ). eqb k 15) done in
+      let a = and-both _ _ all in
+      let b = and-both _ _ (a .1) in
+      let c = and-both _ _ (b .1) in
+      let e = and-both _ _ (c .1) in
+      let f = and-both _ _ (e .1) in
+      let g = and-both _ _ (f .1) in
+      let fit : (length t ≡ 64) × (length x ≡ 65536) = sizes-are (length t) (length x) (a .0) in
+      record {
+        sized = record { table-size = fit .0; texts-size = fit .1 };
+        good = record { reading = b .0; name = c .0; tag = e .0; policy = f .0; short = leb-true (length p) 1024 (g .0) };
+        there = ltb-true place (length t) (ap (ltb place) (sym (held-length x 0 t)) ∙ (place-exactly clock d (contents t x) ∙ g .1));
+      }
+
+  no-refusal : (s : Accepted) → storeRefusal clock d i p t x ≡ none
+  unfolding storeRefusal storeChecks argumentChecks refusalOf sizesFit
+  no-refusal s =
+      rw (lt-ltb place (length t) (s .there), s .sized .table-size, s .sized .texts-size, s .good .reading, s .good .name, s .good .tag, s .good .policy, le-leb (length p) 1024 (s .good .short))
+
+  pub stored-then-found : (later : ℕ) (e : List ℕ) → sameText d e ≡ true → isReading later ≡ true → isLive clock (policyAnswer p .lifetime) later ≡ true
+      → answerTo (lookup later e) (after (store clock d i p) m) ≡ found 15 0 p (length p) clock (length i) (filled 32 i)
+  unfolding clockAndName refusalOf ifLive isLiveAt
+  stored-then-found later e same reading live =
+      let s : Accepted = accepted in
+      let sized : Sized (after (store clock d i p) m) = stored-sized m (s .sized) clock d i p (s .good) (s .there) (no-refusal s) in
+      lookup-shows (after (store clock d i p) m) sized later e
+      ∙ rw (stored-found m (s .sized) clock d i p (s .good) (s .there) (no-refusal s) e same later, reading, sym (name-same d e same), s .good .name, live)

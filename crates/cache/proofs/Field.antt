@@ -13,7 +13,7 @@ use base.Logic.{SProp, ent, sep, wand, all, wandI, allE, apply∗}
 use base.Fml.{Share, Fml, fsep, fat}
 use prog.Wp.{Heap}
 use ghost.Atoms.{Atoms, sem}
-use types.Kit.{Given, mean, ‵, raw, _⊛_, some, _$_, _∵_, !, qed, by, move, drop, use1, use2, split, assume, rewrite, fsplit, fjoin, fpick, fpack, feqI, show, pick, frame, done}
+use types.Kit.{Given, mean, ‵, raw, _⊛_, _$_, _∵_, !, qed, by, move, drop, use1, use2, split, assume, rewrite, fsplit, fjoin, fpick, fpack, feqI, show, pick, frame, done}
 use types.Part.{Part, whole, sub}
 use types.Share.{arr-parts}
 use denote.Array.{Array, arrayVal, array-makes, array-tells, array-vals}

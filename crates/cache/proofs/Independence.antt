@@ -8,7 +8,7 @@ use mathlib.Core.Option.{Option, none, some}
 use native.Mathlib.Omega.{arith}
 use lib.Dec.{eqb, leb, ltb}
 use lib.ListN.{length}
-use borrow.Author.Tests.{leb-true, ltb-true}
+use borrow.Author.Tests.{leb-true, ltb-true, not-true}
 use Rattle.lists.specs.Bytes.{all}
 use Rattle.lists.specs.Equal.{sameText}
 use Rattle.lists.specs.Check.{refusalOf}
@@ -36,23 +36,53 @@ module _ (m : Memory) (s : Sound m) (clock : ℕ) (d i p : List ℕ) (later : �
 
   same-lookup : lookupIn later e put ≡ lookupIn later e m
   unfolding lookupAnswer
-  same-lookup = rw (past-sizes-too put sound-put later e, past-sizes-too m s later e, place-after m s clock d i p e other later w)
+  same-lookup = rw (past-sizes-too put (sound-put .sized) later e, past-sizes-too m (s .sized) later e, place-after m s clock d i p e other later w)
 
   same-shown : answerTo (lookup later e) put ≡ answerTo (lookup later e) m
   unfolding domainOf clockOf
-  same-shown = lookup-shows put sound-put later e ∙ (ap (shown (refusalOf (clockAndName later e))) (other-after m s (store clock d i p) e other later w) ∙ sym (lookup-shows m s later e))
+  same-shown = lookup-shows put (sound-put .sized) later e ∙ (ap (shown (refusalOf (clockAndName later e))) (other-after m s (store clock d i p) e other later w) ∙ sym (lookup-shows m (s .sized) later e))
 
   same-text : textIn later e put ≡ textIn later e m
   unfolding answerTo placeless
   same-text = ap textOf same-shown
 
+-- a domain's lookup answers the same in two memories, and the text that it hands back is the same
+abbrev pub SameLookup : ℕ → List ℕ → Memory → Memory → Type 0
+SameLookup later e m n = (lookupIn later e m ≡ lookupIn later e n) × (textIn later e m ≡ textIn later e n)
+
 -- Whatever calls the table was reached by from an empty one, and whatever their clocks: at the store's clock and at every later one the other domain's lookup answers the same, text's place
 -- and all, and the text that it hands back is the same.
 pub storing-changes-no-other : (m : Memory) → isEmptyTable m ≡ true → (ks : List Call) (clock : ℕ) (d i p : List ℕ) (later : ℕ) (e : List ℕ) → sameText d e ≡ false → clock ≤ later
-    → (lookupIn later e (after (store clock d i p) (reached ks m)) ≡ lookupIn later e (reached ks m)) × (textIn later e (after (store clock d i p) (reached ks m)) ≡ textIn later e (reached ks m))
+    → SameLookup later e (after (store clock d i p) (reached ks m)) (reached ks m)
 storing-changes-no-other m empty ks clock d i p later e other w =
     let s : Sound (reached ks m) = sound-reached ks m (sound-empty m empty) in
     (same-lookup (reached ks m) s clock d i p later e other w, same-text (reached ks m) s clock d i p later e other w)
+
+-- a call for another domain
+other-kept : (m : Memory) → Sound m → (k : Call) (later : ℕ) (e : List ℕ) → isFor e k ≡ false → clockOf k ≤ later → SameLookup later e (after k m) m
+unfolding isFor domainOf clockOf after
+other-kept m s (store clock d i p) later e other w = (same-lookup m s clock d i p later e other w, same-text m s clock d i p later e other w)
+other-kept m s (lookup clock d) later e other w = (refl, refl)
+
+-- any calls for other domains, none of them later than the lookup
+others-kept : (m : Memory) → Sound m → (js : List Call) (later : ℕ) (e : List ℕ) → all (λ (k : Call). not (isFor e k)) js ≡ true → all (λ (k : Call). leb (clockOf k) later) js ≡ true
+    → SameLookup later e (reached js m) m
+unfolding reached all
+others-kept m s [] later e o w = (refl, refl)
+others-kept m s (k ∷ js) later e o w =
+    let other : isFor e k ≡ false = not-true (isFor e k) (and-left (not (isFor e k)) (all (λ (j : Call). not (isFor e j)) js) o) in
+    let past : clockOf k ≤ later = leb-true (clockOf k) later (and-left (leb (clockOf k) later) (all (λ (j : Call). leb (clockOf j) later) js) w) in
+    let first : SameLookup later e (after k m) m = other-kept m s k later e other past in
+    let rest : SameLookup later e (reached js (after k m)) (after k m) =
+    others-kept (after k m) (sound-after m s k) js later e
+    (and-right (not (isFor e k)) (all (λ (j : Call). not (isFor e j)) js) o)
+    (and-right (leb (clockOf k) later) (all (λ (j : Call). leb (clockOf j) later) js) w) in
+    (rest .0 ∙ first .0, rest .1 ∙ first .1)
+
+-- And so for any number of further calls for other domains.
+pub others-change-nothing : (m : Memory) → isEmptyTable m ≡ true → (ks js : List Call) (later : ℕ) (e : List ℕ) → all (λ (k : Call). not (isFor e k)) js ≡ true → all (λ (k : Call). leb (clockOf k) later) js ≡ true
+    → SameLookup later e (reached js (reached ks m)) (reached ks m)
+others-change-nothing m empty ks js later e o w = others-kept (reached ks m) (sound-reached ks m (sound-empty m empty)) js later e o w
 
 -- ---- a cache for one domain alone: it keeps the last policy that was stored, or none
 unfoldable alone : Option Held → List Call → List Answer
@@ -84,7 +114,7 @@ module _ (d : List ℕ) (ks : List Call) (ih : Alike d ks) (m : Memory) (from : 
       → answerTo (lookup clock e) m ∷ answersFor d ks m ≡ alone s (lookup clock e ∷ callsFor d ks)
   unfolding alone
   own-lookup clock e same w r n =
-      rw (lookup-shows m sound clock e, live-like clock e d same m, follows clock w, ih m clock s sound r (λ later l. follows later (omega (arith, w, l))) n)
+      rw (lookup-shows m (sound .sized) clock e, live-like clock e d same m, follows clock w, ih m clock s sound r (λ later l. follows later (omega (arith, w, l))) n)
 
   -- a store for the domain
   module _ (clock : ℕ) (e i p : List ℕ) (same : sameText e d ≡ true) (w : from ≤ clock) (r : rises clock ks ≡ true) where
@@ -100,20 +130,20 @@ module _ (d : List ℕ) (ks : List Call) (ih : Alike d ks) (m : Memory) (from : 
     own-refused : (n : ℕ) → checksOf ≡ some n → Answers (some n)
     unfolding answerTo storeAnswer unlessRefused
     own-refused n h f =
-        let q : storeRefusal clock e i p (m .table) (m .texts) ≡ some n = refused-args m sound clock e i p n h in
-        let a : after call m ≡ m = refused-kept m sound clock e i p n q in
+        let q : storeRefusal clock e i p (m .table) (m .texts) ≡ some n = refused-args m (sound .sized) clock e i p n h in
+        let a : after call m ≡ m = refused-kept m (sound .sized) clock e i p n q in
         rw (q, a, ih m clock s sound r (λ later l. follows later (omega (arith, w, l))) (rw a at f))
 
     -- accepted, it has a place, or is refused with 70
     own-stored : checksOf ≡ none → (b : Bool) → ltb (storePlace clock e (contents (m .table) (m .texts))) (length (m .table)) ≡ b → not (eqb (numberIn (answerTo call m)) 70) ≡ true → Answers none
     unfolding answerTo storeAnswer unlessRefused answerUnless numberIn
     own-stored h true b n f =
-        let q : storeRefusal clock e i p (m .table) (m .texts) ≡ none = by-place m sound clock e i p h ∙ ap (λ (t : Bool). cond t none (some 70)) b in
+        let q : storeRefusal clock e i p (m .table) (m .texts) ≡ none = by-place m (sound .sized) clock e i p h ∙ ap (λ (t : Bool). cond t none (some 70)) b in
         let there : storePlace clock e (contents (m .table) (m .texts)) < length (m .table) = ltb-true (storePlace clock e (contents (m .table) (m .texts))) (length (m .table)) b in
         let good : Good clock e i p = good-args clock e i p h in
-        rw (q, ih (after call m) clock (some (given clock e i p)) (sound-after m sound call) r (λ later l. stored-found m sound clock e i p good there q d same later) f)
+        rw (q, ih (after call m) clock (some (given clock e i p)) (sound-after m sound call) r (λ later l. stored-found m (sound .sized) clock e i p good there q d same later) f)
     own-stored h false b n f =
-        let q : storeRefusal clock e i p (m .table) (m .texts) ≡ some 70 = by-place m sound clock e i p h ∙ ap (λ (t : Bool). cond t none (some 70)) b in
+        let q : storeRefusal clock e i p (m .table) (m .texts) ≡ some 70 = by-place m (sound .sized) clock e i p h ∙ ap (λ (t : Bool). cond t none (some 70)) b in
         apart (rw q at n)
 
     own-store : noneFull (answerTo call m ∷ answersFor d ks (after call m)) ≡ true → answerTo call m ∷ answersFor d ks (after call m) ≡ alone s (call ∷ callsFor d ks)

@@ -6,6 +6,7 @@ pub mod Fill
 pub mod Stored
 pub mod Scanned
 pub mod Single
+pub mod StoredFound
 pub mod Steps
 pub mod Independence
 pub mod Shared

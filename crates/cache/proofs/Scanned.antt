@@ -6,15 +6,15 @@ use mathlib.Core.List.{List, [], _∷_, _++_}
 use mathlib.Core.Option.{Option, none, some}
 use native.Mathlib.Omega.{arith}
 use lib.Dec.{eqb, leb, ltb}
-use lib.ListN.{length, getD, set, take, drop, List·getD-eq-default}
+use lib.ListN.{length, getD, set, take, List·getD-eq-default}
 use lib.Seq.{set-out}
-use borrow.Author.Tests.{eqb-true, eqb-false, le-leb, lt-leb, le-ltb, lt-ltb, leb-true, leb-false, ltb-true, ltb-false, not-true}
+use borrow.Author.Tests.{eqb-true, eqb-false, le-ltb, lt-ltb, leb-true, leb-false, ltb-true, ltb-false, not-true}
 use Rattle.lists.specs.Bytes.{all, lowerOf}
 use Rattle.lists.specs.Equal.{agree, sameLetter, sameText}
 use Rattle.lists.specs.Span.{trimmedLength}
 use Rattle.lists.specs.Place.{firstPlace}
 use Rattle.lists.specs.Check.{refusalOf}
-use Rattle.lists.proofs.Bools.{never, apart, and-left, and-right}
+use Rattle.lists.proofs.Bools.{apart, and-left, and-right}
 use Rattle.lists.proofs.All.{all-more}
 use Rattle.lists.proofs.Agree.{agree-length}
 use Rattle.lists.proofs.Trim.{trim-le, trim-length, trim-none}

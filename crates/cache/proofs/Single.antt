@@ -71,7 +71,7 @@ module _ (c : List (Option Held)) where
   nothing-there d n = List·getD-eq-default c none n
 
   -- the one entry of a domain is the first
-  pub own-is : Single c → (d : List ℕ) (k : ℕ) → isOwn d (getD c k none) ≡ true → ownPlace d c ≡ k
+  own-is : Single c → (d : List ℕ) (k : ℕ) → isOwn d (getD c k none) ≡ true → ownPlace d c ≡ k
   own-is single d k h =
       let l : k < length c = own-inside d k h in
       let m : ownPlace d c ≤ k = first-least (isOwn d) none c k l h in
@@ -151,13 +151,6 @@ module _ (c : List (Option Held)) (single : Single c) (clock : ℕ) (d : List �
           single e i j
           (sym (ap (isOwn e) (put-elsewhere i (eqb-false i k p))) ∙ a)
           (sym (ap (isOwn e) (put-elsewhere j (eqb-false j k q))) ∙ b)
-
-  -- the domain finds what was put, in its place
-  pub own-found : (e : List ℕ) → sameText d e ≡ true → (later : ℕ) → liveFor later e put ≡ ifLive later (some h)
-  unfolding liveFor
-  own-found e s later =
-      let q : ownPlace e put ≡ k = own-is put single-put e k (own-there e ∙ s) in
-      ap (ifLive later) (ap (λ (i : ℕ). getD put i none) q ∙ put-there)
 
   -- another domain finds what it found, in the same place; or it found nothing and finds nothing
   abbrev Unmoved : List ℕ → Type 0

@@ -1,13 +1,13 @@
--- One call on a table of the right size in which no two entries are for one domain: what it answers, and what each domain finds after it. Assumes nothing.
+-- One call on a table of the right size: what it answers, and what its domain finds after it; and where no two entries are for one domain, what each other domain finds. Assumes nothing.
 use Prim.Native.Nat.{ℕ, zero, suc, _+_, _<_, _≤_}
 use mathlib.Core.Path.{_≡_, refl, sym, ap, _∙_}
 use mathlib.Core.Bool.{Bool, true, false, cond}
 use mathlib.Core.List.{List, [], _∷_, _++_}
 use mathlib.Core.Option.{Option, none, some}
 use native.Mathlib.Omega.{arith}
-use lib.Dec.{eqb, leb, ltb}
+use lib.Dec.{leb, ltb}
 use lib.ListN.{length, getD, set, take, drop, length-set, List·getD-eq-default}
-use borrow.Author.Tests.{eqb-true, leb-true, ltb-true, ltb-false}
+use borrow.Author.Tests.{leb-true, ltb-true, ltb-false}
 use Rattle.lists.specs.Bytes.{all}
 use Rattle.lists.specs.Equal.{sameText}
 use Rattle.lists.proofs.Bools.{never, apart, and-left, and-right}
@@ -27,13 +27,17 @@ use Rattle.cache.specs.Held.{Held, textPlace, zeros, filled, isPolicy, t
 use Rattle.cache.specs.Store.{sizesFit, argumentChecks, storeChecks, storeRefusal, unlessRefused, entryFor, tableAfter, textsAfter, isLiveAt, isOwn, isEmpty, ownPlace, storePlace}
 use Rattle.cache.specs.Lookup.{ifLive, liveFor, onlyNumber, foundAt, refusedOr, clockAndName, lookupRefusal, lookupAnswer, handedBack}
 use Rattle.cache.specs.Runs.{Memory, isEmptyTable, Call, store, lookup, clockOf, domainOf, Answer, found, placeless, answerTo, after, reached}
-use Rattle.cache.proofs.Single.{Single, empty-not-own, own-like, own-inside, single-put, own-found, other-live, other-found}
+use Rattle.cache.proofs.Single.{Single, empty-not-own, own-like, own-inside, single-put, other-live, other-found}
+use Rattle.cache.proofs.StoredFound.{found-again}
 use Rattle.cache.proofs.Stored.{held-length, held-at, sizes-are, given, Good, stored, room-there}
 
--- ---- the table: its size, and no two entries for one domain
-pub record Sound (m : Memory) : Type 0 where
+-- ---- the table: its sizes, and no two entries for one domain
+pub record Sized (m : Memory) : Type 0 where
   pub table-size : length (m .table) ≡ 64
   pub texts-size : length (m .texts) ≡ 65536
+
+pub record Sound (m : Memory) : Type 0 where
+  pub sized : Sized m
   pub single : Single (contents (m .table) (m .texts))
 
 sizes-fit : (n m : ℕ) → n ≡ 64 → m ≡ 65536 → sizesFit n m ≡ true
@@ -44,8 +48,7 @@ sizes-fit n m p q = rw (p, q)
 pub sound-empty : (m : Memory) → isEmptyTable m ≡ true → Sound m
 unfolding isEmptyTable
 sound-empty m h = record {
-  table-size = sizes .0;
-  texts-size = sizes .1;
+  sized = record { table-size = sizes .0; texts-size = sizes .1 };
   single = λ d i j a b. absurd (empty-not-own d (getD c i none) (all-at isEmpty none c i (own-inside c d i a) empty) a);
 }
   where
@@ -98,7 +101,7 @@ pub live-like : (later : ℕ) (d e : List ℕ) → sameText d e ≡ true → (m 
 unfolding liveFor
 live-like later d e s m = ap (λ (k : ℕ). ifLive later (getD (contents (m .table) (m .texts)) k none)) (first-like (isOwn d) (isOwn e) (own-like d e s) (contents (m .table) (m .texts)))
 
-module _ (m : Memory) (sound : Sound m) (clock : ℕ) (d i p : List ℕ) where
+module _ (m : Memory) (sized : Sized m) (clock : ℕ) (d i p : List ℕ) where
   abbrev t : List CacheEntry
   t = m .table
 
@@ -117,7 +120,7 @@ module _ (m : Memory) (sound : Sound m) (clock : ℕ) (d i p : List ℕ) where
   -- 74 is not the answer
   past-sizes : storeRefusal clock d i p t x ≡ refusalOf (argumentChecks clock d i p ++ (full ∷ []))
   unfolding storeRefusal storeChecks refusalOf
-  past-sizes = rw (sizes-fit (length t) (length x) (sound .table-size) (sound .texts-size))
+  past-sizes = rw (sizes-fit (length t) (length x) (sized .table-size) (sized .texts-size))
 
   -- refused: nothing changes
   pub refused-kept : (r : ℕ) → storeRefusal clock d i p t x ≡ some r → after call m ≡ m
@@ -153,41 +156,43 @@ module _ (m : Memory) (sound : Sound m) (clock : ℕ) (d i p : List ℕ) where
     in-c = omega (arith, there, held-length x 0 t)
 
     in-64 : k < 64
-    in-64 = omega (arith, there, sound .table-size)
+    in-64 = omega (arith, there, sized .table-size)
 
     after-is : after call m ≡ record { table = set t k (entryFor clock d i p); texts = over (textPlace k) p x }
     unfolding after tableAfter textsAfter unlessRefused
     after-is = rw accepted
 
     pub holds : contents (after call m .table) (after call m .texts) ≡ set c k (some (given clock d i p))
-    holds = rw after-is (stored clock d i p good k x in-64 (sound .texts-size) t (sound .table-size))
+    holds = rw after-is (stored clock d i p good k x in-64 (sized .texts-size) t (sized .table-size))
 
-    pub stored-sound : Sound (after call m)
-    stored-sound = record {
-      table-size = ap (λ (n : Memory). length (n .table)) after-is ∙ (length-set t k (entryFor clock d i p) ∙ sound .table-size);
-      texts-size = ap (λ (n : Memory). length (n .texts)) after-is ∙ (over-length (textPlace k) p x (room-there clock d i p good k x in-64 (sound .texts-size)) ∙ sound .texts-size);
-      single = rw holds (single-put c (sound .single) clock d (given clock d i p) refl in-c);
+    pub stored-sized : Sized (after call m)
+    stored-sized = record {
+      table-size = ap (λ (n : Memory). length (n .table)) after-is ∙ (length-set t k (entryFor clock d i p) ∙ sized .table-size);
+      texts-size = ap (λ (n : Memory). length (n .texts)) after-is ∙ (over-length (textPlace k) p x (room-there clock d i p good k x in-64 (sized .texts-size)) ∙ sized .texts-size);
     }
 
     -- the domain finds it
     pub stored-found : (e : List ℕ) → sameText d e ≡ true → (later : ℕ) → liveIn later e (after call m) ≡ ifLive later (some (given clock d i p))
-    stored-found e s later = rw holds (own-found c (sound .single) clock d (given clock d i p) refl in-c e s later)
+    stored-found e s later = rw holds (found-again c clock d (given clock d i p) refl in-c e s later)
 
-    -- another domain finds what it found
-    pub stored-other : (e : List ℕ) → sameText d e ≡ false → (later : ℕ) → clock ≤ later → liveIn later e (after call m) ≡ liveIn later e m
-    stored-other e other later w = rw holds (other-live c (sound .single) clock d (given clock d i p) refl in-c e other later w)
+    module _ (single : Single c) where
+      pub stored-sound : Sound (after call m)
+      stored-sound = record { sized = stored-sized; single = rw holds (single-put c single clock d (given clock d i p) refl in-c) }
 
-    pub stored-place : (e : List ℕ) → sameText d e ≡ false → (later : ℕ) → clock ≤ later
-        → foundIn later e (after call m) ≡ foundIn later e m
-    stored-place e other later w = rw holds (other-found c (sound .single) clock d (given clock d i p) refl in-c e other later w)
+      -- another domain finds what it found
+      pub stored-other : (e : List ℕ) → sameText d e ≡ false → (later : ℕ) → clock ≤ later → liveIn later e (after call m) ≡ liveIn later e m
+      stored-other e other later w = rw holds (other-live c single clock d (given clock d i p) refl in-c e other later w)
+
+      pub stored-place : (e : List ℕ) → sameText d e ≡ false → (later : ℕ) → clock ≤ later → foundIn later e (after call m) ≡ foundIn later e m
+      stored-place e other later w = rw holds (other-found c single clock d (given clock d i p) refl in-c e other later w)
 
 -- ---- any call
 pub sound-after : (m : Memory) → Sound m → (k : Call) → Sound (after k m)
 unfolding after
 sound-after m s (store clock d i p) =
-    store-ways m s clock d i p
-    (λ r e. rw (refused-kept m s clock d i p r e) s)
-    (λ good there e. stored-sound m s clock d i p good there e)
+    store-ways m (s .sized) clock d i p
+    (λ r e. rw (refused-kept m (s .sized) clock d i p r e) s)
+    (λ good there e. stored-sound m (s .sized) clock d i p good there e (s .single))
 sound-after m s (lookup clock d) = s
 
 pub sound-reached : (ks : List Call) (m : Memory) → Sound m → Sound (reached ks m)
@@ -198,16 +203,16 @@ sound-reached (k ∷ ks) m s = sound-reached ks (after k m) (sound-after m s k)
 pub other-after : (m : Memory) → Sound m → (k : Call) (e : List ℕ) → sameText (domainOf k) e ≡ false → (later : ℕ) → clockOf k ≤ later → liveIn later e (after k m) ≡ liveIn later e m
 unfolding after domainOf clockOf
 other-after m s (store clock d i p) e other later w =
-    store-ways m s clock d i p
-    (λ r h. ap (liveIn later e) (refused-kept m s clock d i p r h))
-    (λ good there h. stored-other m s clock d i p good there h e other later w)
+    store-ways m (s .sized) clock d i p
+    (λ r h. ap (liveIn later e) (refused-kept m (s .sized) clock d i p r h))
+    (λ good there h. stored-other m (s .sized) clock d i p good there h (s .single) e other later w)
 other-after m s (lookup clock d) e other later w = refl
 
 pub place-after : (m : Memory) → Sound m → (clock : ℕ) (d i p e : List ℕ) → sameText d e ≡ false → (later : ℕ) → clock ≤ later → foundIn later e (after (store clock d i p) m) ≡ foundIn later e m
 place-after m s clock d i p e other later w =
-    store-ways m s clock d i p
-    (λ r h. ap (foundIn later e) (refused-kept m s clock d i p r h))
-    (λ good there h. stored-place m s clock d i p good there h e other later w)
+    store-ways m (s .sized) clock d i p
+    (λ r h. ap (foundIn later e) (refused-kept m (s .sized) clock d i p r h))
+    (λ good there h. stored-place m (s .sized) clock d i p good there h (s .single) e other later w)
 
 -- ---- a lookup
 take-own : (n : ℕ) (l : List ℕ) → take (length (take n l)) l ≡ take n l
@@ -255,10 +260,10 @@ handed-text t x k h q = go (ltb k (length t)) refl
         let o : length (contents t x) ≤ k = omega (arith, ltb-false k (length t) e, held-length x 0 t) in
         never (cc (List·getD-eq-default (contents t x) none o))
 
-module _ (m : Memory) (sound : Sound m) (clock : ℕ) (d : List ℕ) where
+module _ (m : Memory) (sized : Sized m) (clock : ℕ) (d : List ℕ) where
   pub past-sizes-too : lookupRefusal clock d (length (m .table)) (length (m .texts)) ≡ refusalOf (clockAndName clock d)
   unfolding lookupRefusal refusalOf
-  past-sizes-too = rw (sizes-fit (length (m .table)) (length (m .texts)) (sound .table-size) (sound .texts-size))
+  past-sizes-too = rw (sizes-fit (length (m .table)) (length (m .texts)) (sized .table-size) (sized .texts-size))
 
   -- what a lookup answers, but for the text's place
   pub lookup-shows : answerTo (lookup clock d) m ≡ shown (refusalOf (clockAndName clock d)) (liveIn clock d m)

@@ -1,7 +1,7 @@
 -- A run by computing, so that the claims on runs are not about nothing: 64 domains fill an empty table; one second before the first entry is stale a store for another domain is refused with 70;
 -- from its last second on the entry is taken for that domain, which finds its policy there, and the first domain finds nothing. Assumes nothing.
 use Prim.Native.Nat.{ℕ, zero, suc, _+_, _/_, _%_}
-use mathlib.Core.Path.{_≡_, refl, sym, ap, _∙_}
+use mathlib.Core.Path.{_≡_, refl, ap, _∙_}
 use mathlib.Core.Bool.{Bool, true, false, cond, _&&_}
 use mathlib.Core.List.{List, [], _∷_}
 use mathlib.Core.Option.{Option, none, some}
@@ -83,13 +83,13 @@ module _ (m : Memory) (sound : Sound m) (clock : ℕ) (d i p : List ℕ) where
           → contents (after (store clock d i p) m .table) (after (store clock d i p) m .texts) ≡ cond (accepts clock d i p && ltb (storePlace clock d c) (length c)) (set c (storePlace clock d c) (some (given clock d i p))) c
       place true b good h =
           rw (accepts-good clock d i p good, sized, b)
-          (holds m sound clock d i p good (ltb-true (storePlace clock d c) (length (m .table)) b) (by-place m sound clock d i p h ∙ ap (λ (t : Bool). cond t none (some 70)) b))
+          (holds m (sound .sized) clock d i p good (ltb-true (storePlace clock d c) (length (m .table)) b) (by-place m (sound .sized) clock d i p h ∙ ap (λ (t : Bool). cond t none (some 70)) b))
       place false b good h =
-          rw (accepts-good clock d i p good, sized, b, refused-kept m sound clock d i p 70 (by-place m sound clock d i p h ∙ ap (λ (t : Bool). cond t none (some 70)) b))
+          rw (accepts-good clock d i p good, sized, b, refused-kept m (sound .sized) clock d i p 70 (by-place m (sound .sized) clock d i p h ∙ ap (λ (t : Bool). cond t none (some 70)) b))
 
       go : (o : Option ℕ) → refusalOf (argumentChecks clock d i p) ≡ o
           → contents (after (store clock d i p) m .table) (after (store clock d i p) m .texts) ≡ cond (accepts clock d i p && ltb (storePlace clock d c) (length c)) (set c (storePlace clock d c) (some (given clock d i p))) c
-      go (some r) h = rw (accepts-not clock d i p r h, refused-kept m sound clock d i p r (refused-args m sound clock d i p r h))
+      go (some r) h = rw (accepts-not clock d i p r h, refused-kept m (sound .sized) clock d i p r (refused-args m (sound .sized) clock d i p r h))
       go none h = place (ltb (storePlace clock d c) (length (m .table))) refl (good-args clock d i p h) h
 
 lookup-keeps : (m : Memory) (clock : ℕ) (d : List ℕ) → contents (after (lookup clock d) m .table) (after (lookup clock d) m .texts) ≡ keptAfter (lookup clock d) (contents (m .table) (m .texts))
@@ -176,8 +176,8 @@ places = (refl, refl)
 
 refusal-is : (clock : ℕ) → refusalOf (argumentChecks clock another id long) ≡ none → storeRefusal clock another id long (full .table) (full .texts) ≡ cond (ltb (storePlace clock another kept) 64) none (some 70)
 refusal-is clock h =
-    by-place full full-sound clock another id long h
-    ∙ (ap (λ (n : ℕ). cond (ltb (storePlace clock another (contents (full .table) (full .texts))) n) none (some 70)) (full-sound .table-size)
+    by-place full (full-sound .sized) clock another id long h
+    ∙ (ap (λ (n : ℕ). cond (ltb (storePlace clock another (contents (full .table) (full .texts))) n) none (some 70)) (full-sound .sized .table-size)
     ∙ ap (λ (l : List (Option Held)). cond (ltb (storePlace clock another l) 64) none (some 70)) full-keeps)
 
 -- one second before the first entry is stale the table is full of live ones
@@ -197,7 +197,7 @@ after-keeps : contents (after call full .table) (after call full .texts) ≡ kep
 after-keeps = keeps full full-sound call ∙ ap (keptAfter call) full-keeps
 
 looks : (clock : ℕ) (d : List ℕ) (m : Memory) → Sound m → (c : List (Option Held)) → contents (m .table) (m .texts) ≡ c → answerTo (lookup clock d) m ≡ shown (refusalOf (clockAndName clock d)) (liveFor clock d c)
-looks clock d m s c e = lookup-shows m s clock d ∙ ap (λ (l : List (Option Held)). shown (refusalOf (clockAndName clock d)) (liveFor clock d l)) e
+looks clock d m s c e = lookup-shows m (s .sized) clock d ∙ ap (λ (l : List (Option Held)). shown (refusalOf (clockAndName clock d)) (liveFor clock d l)) e
 
 -- the first domain found its policy until then, and finds nothing from then on; the other finds its own
 pub first-before : answerTo (lookup 1099 (domain 0)) full ≡ found 15 0 short 39 1000 1 (filled 32 id)

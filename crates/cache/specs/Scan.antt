@@ -25,7 +25,7 @@ unfoldable pub stateOf : ℕ → Option Held → State
 stateOf clock none = S.Empty
 stateOf clock (some h) = cond (isLiveAt clock h) S.Live S.Stale
 
--- the rank of an entry in a pass, a lower one is better. For the domain's own entry, whose state this is: 0 live, 1 stale. For another: 2 empty, 3 stale. 4 is none of these
+-- the rank of an entry in a pass. For the domain's own entry, whose state this is: 0 live, 1 stale. For another: 2 empty, 3 stale. 4 is none of these. Up to 2 the search is over: the first own entry counts, live or stale, and so does the first empty one; a stale one gives way to an empty one
 unfoldable pub rankIn : Bool → State → ℕ
 rankIn true S.Live = 0
 rankIn true S.Stale = 1
@@ -38,7 +38,7 @@ rankIn false S.Live = 4
 unfoldable pub foundOf : ℕ → ℕ → CacheEntry → Found
 foundOf rank i e = record { rank = rank; place = i; fetched = e .fetched; length = e .length; id = e .id }
 
--- the first letter of a text, as a small one; 0 where there is none
+-- the first byte of a text, a capital as its small letter; 0 where there is none
 unfoldable pub firstLetter : List ℕ → ℕ
 firstLetter s = lowerOf (getD s 0 0)
 
@@ -46,7 +46,7 @@ firstLetter s = lowerOf (getD s 0 0)
 unfoldable pub sameAfterFirst : List ℕ → List ℕ → Bool
 sameAfterFirst field d = sameText (drop 1 (take (length d) field)) (drop 1 d)
 
--- a field is a domain but for the first letter of each: these are the same, and without its final zeros it is as long
+-- a field is a domain but for the first letter of each: the letters after the first are the same, and less its final zeros the field is as long
 unfoldable pub sameRest : List ℕ → List ℕ → Bool
 sameRest field d = sameAfterFirst field d && eqb (trimmedLength isZero field) (length d)
 
@@ -54,7 +54,7 @@ sameRest field d = sameAfterFirst field d && eqb (trimmedLength isZero field) (l
 unfoldable pub isSought : Bool → ℕ → ℕ → List ℕ → List ℕ → Bool
 isSought own rank first field d = ltb 2 rank && (not own || (eqb (firstLetter field) first && sameRest field d))
 
--- the entry e at position i, where its rank is better than that of what is found
+-- the entry e at position i, where its rank is lower than that of what is found
 unfoldable pub better : Bool → ℕ → List ℕ → Found → CacheEntry → ℕ → Found
 better own clock x s e i =
     cond (ltb (rankIn own (stateOf clock (heldIn e (textAt x i e)))) (s .rank))
@@ -74,15 +74,15 @@ foundFrom own clock d x i s (e ∷ t) = foundFrom own clock d x (i + 1) (step ow
 unfoldable pub scanned : Bool → ℕ → List ℕ → Found → List CacheEntry → List ℕ → Found
 scanned own clock d s t x = foundFrom own clock d x 0 s t
 
--- the position at which a pass begins among n entries: the end, where nothing better can come
+-- the position at which a pass begins among n entries: the end, where the search is over
 unfoldable pub startAt : ℕ → ℕ → ℕ
 startAt rank n = cond (ltb 2 rank) 0 n
 
--- the position after i at which a pass goes on among n entries: the end, where nothing better can come
+-- the position after i at which a pass goes on among n entries: the end, where the search is over
 unfoldable pub nextAt : ℕ → ℕ → ℕ → ℕ
 nextAt rank i n = cond (ltb 2 rank && ltb i n) (i + 1) n
 
--- what is found before the first pass over a table of n entries with a buffer of m bytes: nothing; where these are not their sizes, what ends a pass at once
+-- what is found before the first pass over a table of n entries with a buffer of m bytes: nothing; where these are not their sizes, a rank that ends the search
 unfoldable pub beginning : ℕ → ℕ → Found
 beginning n m = foundOf (cond (sizesFit n m) 4 2) n noEntry
 

@@ -52,8 +52,8 @@ pub enum State {
     Live,
 }
 
-// What is found so far in a table: the rank of the best entry (0 the domain's own and live, 1 its own and stale, 2 empty, 3 stale, 4 none), its position, and what a
-// lookup answers of it.
+// What is found so far in a table: the rank of an entry (0 the domain's own and live, 1 its own and stale, 2 empty, 3 another's and stale, 4 none), its position, and
+// what a lookup answers of it. Ranks 0, 1 and 2 end the search: the first own entry counts, live or stale, and so does the first empty one.
 pub struct Found {
     pub rank: u64,
     pub place: usize,
@@ -149,7 +149,7 @@ fn is_id_field(field: &[u8]) -> bool
     txt::is_id(unfilled_part(field))
 }
 
-// The first letter of a text, as a small one; 0 where there is none.
+// The first byte of a text, a capital as its small letter; 0 where there is none.
 fn first_letter(s: &[u8]) -> u8
     ensures { λ r. ⌜ r ≡ firstLetter (now (s .entry)) ⌝ }
 {
@@ -270,7 +270,7 @@ fn rank_in(own: bool, state: State) -> u64
     other_rank(state)
 }
 
-// Nothing is found in a table of n entries; the rank says whether a pass is to look.
+// Nothing is found in a table of n entries: rank 4, or 2 as a mark that ends the search before it begins.
 fn nothing_found(rank: u64, n: usize) -> Found
     ensures { λ r. ⌜ r ≡ foundOf rank n noEntry ⌝ }
 {
@@ -283,8 +283,8 @@ fn nothing_found(rank: u64, n: usize) -> Found
     }
 }
 
-// What is found before the first pass over a table of n entries with a buffer of m bytes: nothing; where these are not their sizes, what ends a pass at once, so that
-// no entry is read.
+// What is found before the first pass over a table of n entries with a buffer of m bytes: nothing; where these are not their sizes, the mark that ends the search, so
+// that no entry is read.
 pub fn begin(n: usize, m: usize) -> Found
     ensures { λ r. ⌜ r ≡ beginning n m ⌝ }
 {
@@ -314,7 +314,7 @@ fn is_sought(own: bool, rank: u64, first: u8, field: &[u8], domain: &[u8]) -> bo
     is_rest_of(field, domain)
 }
 
-// What is found, or the entry at position i where it is better.
+// What is found, or the entry at position i where its rank is lower.
 fn better_at(own: bool, clock: u64, texts: &[u8], s: Found, e: CacheEntry, i: usize) -> Found
     ensures { λ r. ⌜ r ≡ better own clock (now (texts .entry)) s e i ⌝ }
 {
@@ -334,7 +334,7 @@ fn better_at(own: bool, clock: u64, texts: &[u8], s: Found, e: CacheEntry, i: us
     s
 }
 
-// The position at which a pass begins among n entries: the end, where nothing better can come.
+// The position at which a pass begins among n entries: the end, where the search is over.
 fn start_at(rank: u64, n: usize) -> usize
     ensures { λ r. ⌜ r ≡ startAt rank n ⌝ }
 {
@@ -344,7 +344,7 @@ fn start_at(rank: u64, n: usize) -> usize
     0
 }
 
-// The position after i at which a pass goes on among n entries: the end, where nothing better can come.
+// The position after i at which a pass goes on among n entries: the end, where the search is over.
 fn next_at(rank: u64, i: usize, n: usize) -> usize
     ensures { λ r. ⌜ r ≡ nextAt rank i n ⌝ }
 {
@@ -357,8 +357,8 @@ fn next_at(rank: u64, i: usize, n: usize) -> usize
     n
 }
 
-// Goes over the lent table once, for the domain's own entry or for another that a store may take, beginning with what is found already. No text is read but those of
-// entries that count.
+// Goes over the lent table once, for the domain's own entry or for another that a store may take, beginning with what is found already. The pass for the own entry
+// reads the texts of entries with this domain alone; the other reads each text until it meets an empty entry.
 pub fn scan(
     own: bool,
     clock: u64,

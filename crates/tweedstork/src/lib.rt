@@ -1,4 +1,4 @@
-// The C boundary: each call takes numbers and byte slices of any contents and answers for all of them. `include/tweedstork.h` declares them.
+// The C boundary: each call takes numbers, and slices of bytes or entries, of any contents, and answers for all of them. `include/tweedstork.h` declares them.
 ghost use mathlib.Core.Bool.{true};
 ghost use mathlib.Core.Path.{_≡_};
 ghost use lib.ListN.{length};
