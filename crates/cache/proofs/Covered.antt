@@ -36,7 +36,7 @@ use Rattle.cache.specs.declared.Plan.{Plan}
 use Rattle.cache.specs.declared.CacheAnswer.{CacheAnswer}
 use Rattle.cache.specs.Held.{textPlace, isZero, unfilled, zeros, filled, isPolicy, textAt, fieldsFit, isAccepted, written, heldIn, noEntry}
 use Rattle.cache.specs.Store.{isLiveAt, sizesFit, argumentChecks, entryFor}
-use Rattle.cache.specs.Lookup.{onlyNumber, refusedOr, clockAndName, lookupRefusal}
+use Rattle.cache.specs.Lookup.{onlyNumber, refusedOr, lookupRefusal}
 use Rattle.cache.specs.Scan.{stateOf, rankIn, foundOf, beginning, firstLetter, sameAfterFirst, sameRest, isSought, better, startAt, nextAt, beyond, refusalFor, refusedPlan, planBy, planOf, foundText, answerBy, answerFrom}
 
 -- ---- `zeros_by_eight`: a number of eight bytes that is zero has only zeros
@@ -448,16 +448,16 @@ module _ (clock : ℕ) (d : List ℕ) (n : ℕ) (x : List ℕ) (s : Found) where
 
     module _ (b : length x ≡ 65536) (u : Bool) (read : u ≡ isReading clock) where
       pub look-clock : (r : CacheAnswer) → u ≡ false → r ≡ onlyNumber 62 → Answers r
-      unfolding answerFrom lookupRefusal refusalOf sizesFit refusedOr clockAndName
+      unfolding answerFrom lookupRefusal refusalOf sizesFit refusedOr
       look-clock r h g = g ∙ rw (eq-eqb n 64 a, eq-eqb (length x) 65536 b, sym read, h)
 
       module _ (c : u ≡ true) (v : Bool) (named : v ≡ isName d) where
         pub look-name : (r : CacheAnswer) → v ≡ false → r ≡ onlyNumber 60 → Answers r
-        unfolding answerFrom lookupRefusal refusalOf sizesFit refusedOr clockAndName
+        unfolding answerFrom lookupRefusal refusalOf sizesFit refusedOr
         look-name r h g = g ∙ rw (eq-eqb n 64 a, eq-eqb (length x) 65536 b, sym read, c, sym named, h)
 
         pub look-found : v ≡ true → (r : CacheAnswer) → r ≡ answerBy x s → Answers r
-        unfolding answerFrom lookupRefusal refusalOf sizesFit refusedOr clockAndName
+        unfolding answerFrom lookupRefusal refusalOf sizesFit refusedOr
         look-found e r g = g ∙ rw (eq-eqb n 64 a, eq-eqb (length x) 65536 b, sym read, c, sym named, e)
 
 pub ruleset look-laws = (look-table, look-texts, look-clock, look-name, look-found, not-true, not-false, needs)

@@ -8,7 +8,7 @@ use mathlib.Core.Logic.{_⊎_, inl, inr}
 use mathlib.Core.Option.{Option, none, some}
 use lib.Dec.{eqb, leb, ltb}
 use lib.ListN.{length, getD}
-use borrow.Author.Tests.{leb-true, le-leb, ltb-true, lt-ltb}
+use borrow.Author.Tests.{leb-true, leb-false, le-leb, ltb-true, lt-ltb, le-ltb}
 use Rattle.lists.specs.Bytes.{any}
 use Rattle.lists.specs.Equal.{sameText}
 use Rattle.lists.specs.Place.{firstPlace}
@@ -25,12 +25,13 @@ use Rattle.txt.specs.Paper.{isId}
 use Rattle.writing.specs.Answer.{answerUnless}
 use Rattle.cache.specs.declared.CacheEntry.{CacheEntry}
 use Rattle.cache.specs.declared.CacheAnswer.{CacheAnswer}
-use Rattle.cache.specs.Held.{Held, textPlace, zeros, filled, isPolicy, contents}
+use Rattle.cache.specs.Held.{Held, textPlace, zeros, unfilled, filled, isPolicy, fieldsFit, isAccepted, written, heldIn, contents}
 use Rattle.cache.specs.Store.{isLiveAt, isOwn, isEmpty, isStale, elsePlace, ownPlace, storePlace, sizesFit, argumentChecks, storeChecks, storeRefusal, entryFor, storeAnswer}
-use Rattle.cache.specs.Lookup.{ifLive, liveFor, onlyNumber, foundAt, clockAndName, lookupRefusal, refusedOr, lookupAnswer, handedBack}
+use Rattle.cache.specs.Lookup.{ifLive, liveFor, onlyNumber, foundAt, lookupRefusal, refusedOr, lookupAnswer, handedBack}
 use Rattle.cache.proofs.Fill.{filled-out, id-short}
 use Rattle.cache.specs.Runs.{Memory, store, lookup, found, answerTo, after}
 use Rattle.cache.proofs.Stored.{held-length, sizes-are, Good}
+use Rattle.cache.proofs.StoredFound.{place-own}
 use Rattle.cache.proofs.Steps.{Sized, handed-text, live-held, stored-sized, stored-found, lookup-shows}
 
 -- ---- a policy's number is 7, 50, 51 or 52
@@ -42,6 +43,26 @@ policy-not p n a b c d = go (answer-table p)
     go (inr (inl e)) = ap (λ (r : PolicyAnswer). eqb (r .number) n) e ∙ b
     go (inr (inr (inl e))) = ap (λ (r : PolicyAnswer). eqb (r .number) n) e ∙ c
     go (inr (inr (inr e))) = ap (λ (r : PolicyAnswer). eqb (r .number) n) e ∙ d
+
+-- ---- an entry counts as empty exactly where its length is over 1,024, or its domain or id (less its final zeros), its fetch reading or its text wouldn't be accepted
+pub empty-exactly : (e : CacheEntry) (text : List ℕ)
+    → isEmpty (heldIn e text) ≡ (ltb 1024 (e .length) || not (isName (unfilled (e .domain))) || not (isId (unfilled (e .id))) || not (isReading (e .fetched)) || not (eqb (policyAnswer text .number) 7))
+unfolding isEmpty heldIn isAccepted fieldsFit isPolicy
+empty-exactly e text =
+    go (leb (e .length) 1024) (isName (unfilled (e .domain))) (isId (unfilled (e .id))) (isReading (e .fetched)) (eqb (policyAnswer text .number) 7)
+    ∙ ap (λ (b : Bool). b || not (isName (unfilled (e .domain))) || not (isId (unfilled (e .id))) || not (isReading (e .fetched)) || not (eqb (policyAnswer text .number) 7)) (over-is (leb (e .length) 1024) refl)
+  where
+    go : (a b c f g : Bool) → isEmpty (cond ((a && b && c && f) && g) (some (written e text)) none) ≡ (not a || not b || not c || not f || not g)
+    go false b c f g = refl
+    go true false c f g = refl
+    go true true false f g = refl
+    go true true true false g = refl
+    go true true true true false = refl
+    go true true true true true = refl
+
+    over-is : (b : Bool) → leb (e .length) 1024 ≡ b → not b ≡ ltb 1024 (e .length)
+    over-is true h = sym (le-ltb 1024 (e .length) (leb-true (e .length) 1024 h))
+    over-is false h = sym (lt-ltb 1024 (e .length) (leb-false (e .length) 1024 h))
 
 -- ---- there is a place exactly where an entry is the domain's own, or empty, or stale by then
 pub place-exactly : (clock : ℕ) (d : List ℕ) (c : List (Option Held)) → ltb (storePlace clock d c) (length c) ≡ (any (isOwn d) c || any isEmpty c || any (isStale clock) c)
@@ -57,8 +78,7 @@ place-exactly clock d c = rw (sym (first-any (isOwn d) c), sym (first-any isEmpt
 -- and it is the domain's own entry, else an empty one, else one that is stale by then: of each kind the first (`first-passes`, `first-least`)
 module _ (clock : ℕ) (d : List ℕ) (c : List (Option Held)) where
   pub takes-own : any (isOwn d) c ≡ true → storePlace clock d c ≡ firstPlace (isOwn d) c
-  unfolding storePlace elsePlace
-  takes-own own = rw (first-any (isOwn d) c, own)
+  takes-own own = place-own c clock d (ltb-true (ownPlace d c) (length c) (first-any (isOwn d) c ∙ own))
 
   pub takes-empty : any (isOwn d) c ≡ false → any isEmpty c ≡ true → storePlace clock d c ≡ firstPlace isEmpty c
   unfolding storePlace elsePlace
@@ -270,7 +290,7 @@ module _ (clock : ℕ) (d : List ℕ) (t : List CacheEntry) (x : List ℕ) where
   sized = eqb (length t) 64 && eqb (length x) 65536
 
   pub lookup-number : answer .number ≡ cond sized (cond (isReading clock) (cond (isName d) (cond has 15 72) 60) 62) 74
-  unfolding lookupAnswer lookupRefusal clockAndName refusalOf sizesFit refusedOr onlyNumber foundAt isSome
+  unfolding lookupAnswer lookupRefusal refusalOf sizesFit refusedOr onlyNumber foundAt isSome
   lookup-number = go sized (isReading clock) (isName d) live
     where
       go : (a b c : Bool) (o : Option Held)
@@ -383,18 +403,18 @@ module _ (m : Memory) (clock : ℕ) (d i p : List ℕ) (done : storeAnswer clock
       let fit : (length t ≡ 64) × (length x ≡ 65536) = sizes-are (length t) (length x) (a .0) in
       record {
         sized = record { table-size = fit .0; texts-size = fit .1 };
-        good = record { reading = b .0; name = c .0; tag = e .0; policy = f .0; short = leb-true (length p) 1024 (g .0) };
+        good = record { reading = b .0; name = c .0; id-form = e .0; policy = f .0; short = leb-true (length p) 1024 (g .0) };
         there = ltb-true place (length t) (ap (ltb place) (sym (held-length x 0 t)) ∙ (place-exactly clock d (contents t x) ∙ g .1));
       }
 
   no-refusal : (s : Accepted) → storeRefusal clock d i p t x ≡ none
   unfolding storeRefusal storeChecks argumentChecks refusalOf sizesFit
   no-refusal s =
-      rw (lt-ltb place (length t) (s .there), s .sized .table-size, s .sized .texts-size, s .good .reading, s .good .name, s .good .tag, s .good .policy, le-leb (length p) 1024 (s .good .short))
+      rw (lt-ltb place (length t) (s .there), s .sized .table-size, s .sized .texts-size, s .good .reading, s .good .name, s .good .id-form, s .good .policy, le-leb (length p) 1024 (s .good .short))
 
   pub stored-then-found : (later : ℕ) (e : List ℕ) → sameText d e ≡ true → isReading later ≡ true → isLive clock (policyAnswer p .lifetime) later ≡ true
       → answerTo (lookup later e) (after (store clock d i p) m) ≡ found 15 0 p (length p) clock (length i) (filled 32 i)
-  unfolding clockAndName refusalOf ifLive isLiveAt
+  unfolding refusalOf ifLive isLiveAt
   stored-then-found later e same reading live =
       let s : Accepted = accepted in
       let sized : Sized (after (store clock d i p) m) = stored-sized m (s .sized) clock d i p (s .good) (s .there) (no-refusal s) in

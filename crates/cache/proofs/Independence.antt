@@ -15,8 +15,8 @@ use Rattle.lists.specs.Check.{refusalOf}
 use Rattle.lists.proofs.Bools.{apart, and-left, and-right}
 use Rattle.writing.specs.Answer.{answerUnless}
 use Rattle.cache.specs.Held.{Held, contents}
-use Rattle.cache.specs.Store.{argumentChecks, storeRefusal, unlessRefused, storeAnswer, storePlace}
-use Rattle.cache.specs.Lookup.{ifLive, clockAndName, lookupAnswer}
+use Rattle.cache.specs.Store.{argumentChecks, storeRefusal, unlessRefused, storeAnswer, storePlace, clockAndName}
+use Rattle.cache.specs.Lookup.{ifLive, lookupAnswer}
 use Rattle.cache.specs.Runs.{Memory, isEmptyTable, Call, store, lookup, clockOf, domainOf, Answer, wrote, found, lookupIn, textIn, placeless, answerTo, after, reached, rises, isFor, callsFor, answersFor, numberIn, noneFull}
 use Rattle.cache.proofs.Stored.{given, Good}
 use Rattle.cache.proofs.Steps.{Sound, liveIn, sound-empty, sound-after, sound-reached, nothing-in-empty, good-args, refused-kept, refused-args, by-place, stored-found, other-after, place-after, past-sizes-too, shown, lookup-shows, live-like}

@@ -29,8 +29,8 @@ use Rattle.cache.specs.declared.State.the-variants as S
 use Rattle.cache.specs.declared.Found.{Found}
 use Rattle.cache.specs.declared.Plan.{Plan}
 use Rattle.cache.specs.Held.{Held, textPlace, isZero, unfilled, textAt, isAccepted, written, heldIn, heldFrom, contents, noEntry}
-use Rattle.cache.specs.Store.{isLiveAt, isOwn, isEmpty, isStale, elsePlace, ownPlace, storePlace, sizesFit, argumentChecks, storeChecks, storeRefusal, unlessRefused, entryFor, storeAnswer, tableAfter, textsAfter}
-use Rattle.cache.specs.Lookup.{ifLive, liveFor, foundAt, refusedOr, clockAndName, lookupRefusal, lookupAnswer}
+use Rattle.cache.specs.Store.{isLiveAt, isOwn, isEmpty, isStale, elsePlace, ownPlace, storePlace, sizesFit, argumentChecks, storeChecks, storeRefusal, unlessRefused, entryFor, storeAnswer, tableAfter, textsAfter, clockAndName}
+use Rattle.cache.specs.Lookup.{ifLive, liveFor, foundAt, refusedOr, lookupRefusal, lookupAnswer}
 use Rattle.cache.specs.Scan.{stateOf, rankIn, foundOf, firstLetter, sameAfterFirst, sameRest, isSought, better, step, foundFrom, scanned, beginning, ownScanned, bothScanned, beyond, refusalFor, refusedPlan, planBy, planOf, answerBy, answerFrom}
 use Rattle.cache.proofs.Covered.{held-yes, held-no, outside-kept}
 use Rattle.cache.proofs.Pass.{ended-stays}

@@ -71,8 +71,8 @@ module _ (c : List (Option Held)) where
   nothing-there d n = List·getD-eq-default c none n
 
   -- the one entry of a domain is the first
-  own-is : Single c → (d : List ℕ) (k : ℕ) → isOwn d (getD c k none) ≡ true → ownPlace d c ≡ k
-  own-is single d k h =
+  own-place-is : Single c → (d : List ℕ) (k : ℕ) → isOwn d (getD c k none) ≡ true → ownPlace d c ≡ k
+  own-place-is single d k h =
       let l : k < length c = own-inside d k h in
       let m : ownPlace d c ≤ k = first-least (isOwn d) none c k l h in
       single d (ownPlace d c) k (first-passes (isOwn d) none c (omega arith)) h
@@ -198,7 +198,7 @@ module _ (c : List (Option Held)) (single : Single c) (clock : ℕ) (d : List �
         go true o =
             inr (
               ap (ifLive later) (nothing-there put e (lost o)),
-              ap (ifLive later) (ap (λ (i : ℕ). getD c i none) (own-is c single e k o)) ∙ stale-later clock later (getD c k none) (taken-stale c clock d e other l o) w,
+              ap (ifLive later) (ap (λ (i : ℕ). getD c i none) (own-place-is c single e k o)) ∙ stale-later clock later (getD c k none) (taken-stale c clock d e other l o) w,
             )
 
     -- another domain's live policy is as it was, at the store's clock and every later one

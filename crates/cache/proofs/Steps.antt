@@ -24,8 +24,8 @@ use Rattle.writing.proofs.Over.{over-length}
 use Rattle.cache.specs.declared.CacheEntry.{CacheEntry}
 use Rattle.cache.specs.declared.CacheAnswer.{CacheAnswer}
 use Rattle.cache.specs.Held.{Held, textPlace, zeros, filled, isPolicy, textAt, isAccepted, heldIn, contents, noEntry, written}
-use Rattle.cache.specs.Store.{sizesFit, argumentChecks, storeChecks, storeRefusal, unlessRefused, entryFor, tableAfter, textsAfter, isLiveAt, isOwn, isEmpty, ownPlace, storePlace}
-use Rattle.cache.specs.Lookup.{ifLive, liveFor, onlyNumber, foundAt, refusedOr, clockAndName, lookupRefusal, lookupAnswer, handedBack}
+use Rattle.cache.specs.Store.{sizesFit, argumentChecks, storeChecks, storeRefusal, unlessRefused, entryFor, tableAfter, textsAfter, isLiveAt, isOwn, isEmpty, ownPlace, storePlace, clockAndName}
+use Rattle.cache.specs.Lookup.{ifLive, liveFor, onlyNumber, foundAt, refusedOr, lookupRefusal, lookupAnswer, handedBack}
 use Rattle.cache.specs.Runs.{Memory, isEmptyTable, Call, store, lookup, clockOf, domainOf, Answer, found, placeless, answerTo, after, reached}
 use Rattle.cache.proofs.Single.{Single, empty-not-own, own-like, own-inside, single-put, other-live, other-found}
 use Rattle.cache.proofs.StoredFound.{found-again}
@@ -86,15 +86,15 @@ good-args clock d i p h =
     let c = checks-first (isId i) 80 _ (b .1) in
     let e = checks-first (isPolicy p) (policyAnswer p .number) _ (c .1) in
     let f = checks-first (leb (length p) 1024) 71 _ (e .1) in
-    record { reading = a .0; name = b .0; tag = c .0; policy = e .0; short = leb-true (length p) 1024 (f .0) }
+    record { reading = a .0; name = b .0; id-form = c .0; policy = e .0; short = leb-true (length p) 1024 (f .0) }
 
 -- what each domain finds
 abbrev pub liveIn : ℕ → List ℕ → Memory → Option Held
 liveIn later d m = liveFor later d (contents (m .table) (m .texts))
 
 -- and the answer for it
-abbrev pub foundIn : ℕ → List ℕ → Memory → CacheAnswer
-foundIn later d m = foundAt (ownPlace d (contents (m .table) (m .texts))) (liveIn later d m)
+abbrev pub answerIn : ℕ → List ℕ → Memory → CacheAnswer
+answerIn later d m = foundAt (ownPlace d (contents (m .table) (m .texts))) (liveIn later d m)
 
 -- two spellings of one domain find the same
 pub live-like : (later : ℕ) (d e : List ℕ) → sameText d e ≡ true → (m : Memory) → liveIn later d m ≡ liveIn later e m
@@ -183,7 +183,7 @@ module _ (m : Memory) (sized : Sized m) (clock : ℕ) (d i p : List ℕ) where
       pub stored-other : (e : List ℕ) → sameText d e ≡ false → (later : ℕ) → clock ≤ later → liveIn later e (after call m) ≡ liveIn later e m
       stored-other e other later w = rw holds (other-live c single clock d (given clock d i p) refl in-c e other later w)
 
-      pub stored-place : (e : List ℕ) → sameText d e ≡ false → (later : ℕ) → clock ≤ later → foundIn later e (after call m) ≡ foundIn later e m
+      pub stored-place : (e : List ℕ) → sameText d e ≡ false → (later : ℕ) → clock ≤ later → answerIn later e (after call m) ≡ answerIn later e m
       stored-place e other later w = rw holds (other-found c single clock d (given clock d i p) refl in-c e other later w)
 
 -- ---- any call
@@ -208,10 +208,10 @@ other-after m s (store clock d i p) e other later w =
     (λ good there h. stored-other m (s .sized) clock d i p good there h (s .single) e other later w)
 other-after m s (lookup clock d) e other later w = refl
 
-pub place-after : (m : Memory) → Sound m → (clock : ℕ) (d i p e : List ℕ) → sameText d e ≡ false → (later : ℕ) → clock ≤ later → foundIn later e (after (store clock d i p) m) ≡ foundIn later e m
+pub place-after : (m : Memory) → Sound m → (clock : ℕ) (d i p e : List ℕ) → sameText d e ≡ false → (later : ℕ) → clock ≤ later → answerIn later e (after (store clock d i p) m) ≡ answerIn later e m
 place-after m s clock d i p e other later w =
     store-ways m (s .sized) clock d i p
-    (λ r h. ap (foundIn later e) (refused-kept m (s .sized) clock d i p r h))
+    (λ r h. ap (answerIn later e) (refused-kept m (s .sized) clock d i p r h))
     (λ good there h. stored-place m (s .sized) clock d i p good there h (s .single) e other later w)
 
 -- ---- a lookup

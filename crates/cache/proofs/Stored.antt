@@ -51,7 +51,7 @@ given clock d i p = record { domain = d; id = i; fetched = clock; text = p }
 pub record Good (clock : ℕ) (d i p : List ℕ) : Type 0 where
   pub reading : isReading clock ≡ true
   pub name : isName d ≡ true
-  pub tag : isId i ≡ true
+  pub id-form : isId i ≡ true
   pub policy : isPolicy p ≡ true
   pub short : length p ≤ room
 
@@ -65,7 +65,7 @@ module _ (clock : ℕ) (d i p : List ℕ) (good : Good clock d i p) where
   pub made-holds : heldIn (entryFor clock d i p) p ≡ some (given clock d i p)
   unfolding heldIn isAccepted fieldsFit entryFor
   made-holds =
-      rw (filled-back 253 d (name-short d (good .name)) (name-lacks d (good .name)), filled-back 32 i (id-short i (good .tag)) (id-lacks i (good .tag)), le-leb (length p) 1024 (good .short), good .name, good .tag, good .reading, good .policy)
+      rw (filled-back 253 d (name-short d (good .name)) (name-lacks d (good .name)), filled-back 32 i (id-short i (good .id-form)) (id-lacks i (good .id-form)), le-leb (length p) 1024 (good .short), good .name, good .id-form, good .reading, good .policy)
 
   module _ (k : ℕ) (x : List ℕ) (k-inside : k < 64) (size : length x ≡ 65536) where
     pub room-there : textPlace k + length p ≤ length x

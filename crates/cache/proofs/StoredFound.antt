@@ -18,7 +18,7 @@ use Rattle.cache.proofs.Single.{own-like}
 
 module _ (c : List (Option Held)) (clock : ℕ) (d : List ℕ) where
   -- where the domain has an own entry, the first of them is the place
-  place-own : ownPlace d c < length c → storePlace clock d c ≡ ownPlace d c
+  pub place-own : ownPlace d c < length c → storePlace clock d c ≡ ownPlace d c
   unfolding storePlace elsePlace
   place-own h = rw (lt-ltb (ownPlace d c) (length c) h)
 

@@ -30,8 +30,8 @@ use Rattle.txt.specs.Paper.{isId}
 use Rattle.writing.specs.Answer.{success, refusal, answerUnless}
 use Rattle.cache.specs.declared.CacheEntry.{CacheEntry}
 use Rattle.cache.specs.Held.{Held, isZero, zeros, filled, isPolicy, textAt, fieldsFit, isAccepted, heldIn, heldFrom, contents, noEntry}
-use Rattle.cache.specs.Store.{isLiveAt, isOwn, isEmpty, isStale, elsePlace, storePlace, sizesFit, argumentChecks, storeRefusal, storeAnswer}
-use Rattle.cache.specs.Lookup.{ifLive, liveFor, clockAndName}
+use Rattle.cache.specs.Store.{isLiveAt, isOwn, isEmpty, isStale, elsePlace, storePlace, sizesFit, argumentChecks, storeRefusal, storeAnswer, clockAndName}
+use Rattle.cache.specs.Lookup.{ifLive, liveFor}
 use Rattle.cache.specs.Runs.{Memory, isEmptyTable, Call, store, lookup, clockOf, found, answerTo, after, reached, rises}
 use Rattle.cache.proofs.Fill.{all-zeros}
 use Rattle.cache.proofs.Stored.{held-length, given, Good}
@@ -53,7 +53,7 @@ keptAll (k ∷ ks) c = keptAll ks (keptAfter k c)
 -- accepted arguments are those that no check refuses
 accepts-good : (clock : ℕ) (d i p : List ℕ) → Good clock d i p → accepts clock d i p ≡ true
 unfolding accepts
-accepts-good clock d i p g = rw (g .reading, g .name, g .tag, g .policy, le-leb (length p) 1024 (g .short))
+accepts-good clock d i p g = rw (g .reading, g .name, g .id-form, g .policy, le-leb (length p) 1024 (g .short))
 
 accepts-not : (clock : ℕ) (d i p : List ℕ) (r : ℕ) → refusalOf (argumentChecks clock d i p) ≡ some r → accepts clock d i p ≡ false
 unfolding refusalOf argumentChecks accepts
@@ -201,13 +201,13 @@ looks clock d m s c e = lookup-shows m (s .sized) clock d ∙ ap (λ (l : List (
 
 -- the first domain found its policy until then, and finds nothing from then on; the other finds its own
 pub first-before : answerTo (lookup 1099 (domain 0)) full ≡ found 15 0 short 39 1000 1 (filled 32 id)
-unfolding keptAll keptAfter accepts fill storePlace elsePlace firstPlace isOwn isEmpty isStale isLiveAt isPolicy isId all any lowerOf agree sameByte sameLetter spanOf indexOf split toFirst labelByte isLabel isName isStarred isWildcard isPattern cappedAge isReading timeLeft isLive blank trimmedLength letterOrDigit nameByte isFieldName hasName utf8Tail utf8Two utf8Three utf8Four printable isText isValue lines lineStart nameOf valueOf isLine isNamed firstNamed patterns isVersion modeOf isDigit decimalAfter ageOf isThere isFirst causeAfter faultAt orLater firstFault bodyFault modeIn ageIn hasPatterns complete completed judged readBody modeNumber policyTo policyAnswer refusalOf clockAndName liveFor ifLive
+unfolding keptAll keptAfter accepts fill storePlace elsePlace firstPlace isOwn isEmpty isStale isLiveAt isPolicy isId all any lowerOf agree sameByte sameLetter spanOf indexOf split toFirst labelByte isLabel isName isStarred isWildcard isPattern cappedAge isReading timeLeft isLive blank trimmedLength letterOrDigit nameByte isFieldName hasName utf8Tail utf8Two utf8Three utf8Four printable isText isValue lines lineStart nameOf valueOf isLine isNamed firstNamed patterns isVersion modeOf isDigit decimalAfter ageOf isThere isFirst causeAfter faultAt orLater firstFault bodyFault modeIn ageIn hasPatterns complete completed judged readBody modeNumber policyTo policyAnswer refusalOf liveFor ifLive
 first-before = looks 1099 (domain 0) full full-sound kept full-keeps
 
 pub first-after : answerTo (lookup 1100 (domain 0)) (after call full) ≡ found 72 0 [] 0 0 0 (zeros 32)
-unfolding keptAll keptAfter accepts fill storePlace elsePlace firstPlace isOwn isEmpty isStale isLiveAt isPolicy isId all any lowerOf agree sameByte sameLetter spanOf indexOf split toFirst labelByte isLabel isName isStarred isWildcard isPattern cappedAge isReading timeLeft isLive blank trimmedLength letterOrDigit nameByte isFieldName hasName utf8Tail utf8Two utf8Three utf8Four printable isText isValue lines lineStart nameOf valueOf isLine isNamed firstNamed patterns isVersion modeOf isDigit decimalAfter ageOf isThere isFirst causeAfter faultAt orLater firstFault bodyFault modeIn ageIn hasPatterns complete completed judged readBody modeNumber policyTo policyAnswer refusalOf clockAndName liveFor ifLive
+unfolding keptAll keptAfter accepts fill storePlace elsePlace firstPlace isOwn isEmpty isStale isLiveAt isPolicy isId all any lowerOf agree sameByte sameLetter spanOf indexOf split toFirst labelByte isLabel isName isStarred isWildcard isPattern cappedAge isReading timeLeft isLive blank trimmedLength letterOrDigit nameByte isFieldName hasName utf8Tail utf8Two utf8Three utf8Four printable isText isValue lines lineStart nameOf valueOf isLine isNamed firstNamed patterns isVersion modeOf isDigit decimalAfter ageOf isThere isFirst causeAfter faultAt orLater firstFault bodyFault modeIn ageIn hasPatterns complete completed judged readBody modeNumber policyTo policyAnswer refusalOf liveFor ifLive
 first-after = looks 1100 (domain 0) (after call full) (sound-after full full-sound call) (keptAfter call kept) after-keeps
 
 pub another-after : answerTo (lookup 1100 another) (after call full) ≡ found 15 0 long 39 1100 1 (filled 32 id)
-unfolding keptAll keptAfter accepts fill storePlace elsePlace firstPlace isOwn isEmpty isStale isLiveAt isPolicy isId all any lowerOf agree sameByte sameLetter spanOf indexOf split toFirst labelByte isLabel isName isStarred isWildcard isPattern cappedAge isReading timeLeft isLive blank trimmedLength letterOrDigit nameByte isFieldName hasName utf8Tail utf8Two utf8Three utf8Four printable isText isValue lines lineStart nameOf valueOf isLine isNamed firstNamed patterns isVersion modeOf isDigit decimalAfter ageOf isThere isFirst causeAfter faultAt orLater firstFault bodyFault modeIn ageIn hasPatterns complete completed judged readBody modeNumber policyTo policyAnswer refusalOf clockAndName liveFor ifLive
+unfolding keptAll keptAfter accepts fill storePlace elsePlace firstPlace isOwn isEmpty isStale isLiveAt isPolicy isId all any lowerOf agree sameByte sameLetter spanOf indexOf split toFirst labelByte isLabel isName isStarred isWildcard isPattern cappedAge isReading timeLeft isLive blank trimmedLength letterOrDigit nameByte isFieldName hasName utf8Tail utf8Two utf8Three utf8Four printable isText isValue lines lineStart nameOf valueOf isLine isNamed firstNamed patterns isVersion modeOf isDigit decimalAfter ageOf isThere isFirst causeAfter faultAt orLater firstFault bodyFault modeIn ageIn hasPatterns complete completed judged readBody modeNumber policyTo policyAnswer refusalOf liveFor ifLive
 another-after = looks 1100 another (after call full) (sound-after full full-sound call) (keptAfter call kept) after-keeps

@@ -1,16 +1,14 @@
 -- Document 02, No. 1: looking up. "Looking up (74, 62, 60 first) hands back the live policy's text as a part of the lent buffer, with id and fetch reading, or 72."
 use Prim.Native.Nat.{ℕ}
 use mathlib.Core.Bool.{cond}
-use mathlib.Core.List.{List, [], _∷_}
+use mathlib.Core.List.{List, _∷_}
 use mathlib.Core.Option.{Option, none, some}
 use lib.ListN.{length, getD, take, drop}
-use Rattle.lists.specs.Check.{Check, refusalOf}
-use Rattle.names.specs.Name.{isName}
-use Rattle.clock.specs.Clock.{isReading}
+use Rattle.lists.specs.Check.{refusalOf}
 use Rattle.cache.specs.declared.CacheEntry.{CacheEntry}
 use Rattle.cache.specs.declared.CacheAnswer.{CacheAnswer}
 use Rattle.cache.specs.Held.{Held, textPlace, zeros, filled, contents}
-use Rattle.cache.specs.Store.{sizesFit, isLiveAt, ownPlace}
+use Rattle.cache.specs.Store.{isLiveAt, ownPlace, sizesCheck, clockAndName}
 
 -- what is held, where it is live
 unfoldable pub ifLive : ℕ → Option Held → Option Held
@@ -31,13 +29,9 @@ foundAt k none = onlyNumber 72
 foundAt k (some h) =
     record { number = 15; length = 0; «text_start» = textPlace k; «text_length» = length (h .text); fetched = h .fetched; «id_length» = length (h .id); id = filled 32 (h .id) }
 
--- what a lookup checks of clock and domain: 62, 60
-unfoldable pub clockAndName : ℕ → List ℕ → List Check
-clockAndName clock d = record { passes = isReading clock; refusal = 62 } ∷ record { passes = isName d; refusal = 60 } ∷ []
-
 -- the refusal of a lookup in a table of n entries and a buffer of m bytes, 74 first; or none
 unfoldable pub lookupRefusal : ℕ → List ℕ → ℕ → ℕ → Option ℕ
-lookupRefusal clock d n m = refusalOf (record { passes = sizesFit n m; refusal = 74 } ∷ clockAndName clock d)
+lookupRefusal clock d n m = refusalOf (sizesCheck n m ∷ clockAndName clock d)
 
 -- a refusal, or the answer
 unfoldable pub refusedOr : Option ℕ → CacheAnswer → CacheAnswer

@@ -17,7 +17,7 @@ use Rattle.cache.specs.declared.Found.{Found}
 use Rattle.cache.specs.declared.Plan.{Plan}
 use Rattle.cache.specs.declared.CacheAnswer.{CacheAnswer}
 use Rattle.cache.specs.Held.{Held, entries, textPlace, isZero, unfilled, filled, textAt, heldIn, noEntry}
-use Rattle.cache.specs.Store.{isLiveAt, sizesFit, argumentChecks, entryFor}
+use Rattle.cache.specs.Store.{isLiveAt, sizesFit, sizesCheck, argumentChecks, entryFor}
 use Rattle.cache.specs.Lookup.{onlyNumber, refusedOr, lookupRefusal}
 
 -- the state at a clock of what an entry holds
@@ -100,7 +100,7 @@ beyond n m = cond (ltb n m) m n
 -- the refusal of a store into a table of n entries and a buffer of m bytes, where an entry of this rank was found
 unfoldable pub refusalFor : ℕ → (d i p : List ℕ) → ℕ → ℕ → ℕ → Option ℕ
 refusalFor clock d i p n m rank =
-    refusalOf (record { passes = sizesFit n m; refusal = 74 } ∷ (argumentChecks clock d i p ++ (record { passes = ltb rank 4; refusal = 70 } ∷ [])))
+    refusalOf (sizesCheck n m ∷ (argumentChecks clock d i p ++ (record { passes = ltb rank 4; refusal = 70 } ∷ [])))
 
 -- a refused store: what is written outside of table and buffer is not written
 unfoldable pub refusedPlan : ℕ → ℕ → ℕ → Plan

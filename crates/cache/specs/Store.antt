@@ -56,20 +56,26 @@ storePlace clock d c = elsePlace (length c) (ownPlace d c) (elsePlace (length c)
 unfoldable pub sizesFit : ℕ → ℕ → Bool
 sizesFit n m = eqb n entries && eqb m (entries * room)
 
+-- the checks that both calls begin with: 74 of the sizes, then 62 and 60 of clock and domain
+abbrev pub sizesCheck : ℕ → ℕ → Check
+sizesCheck n m = record { passes = sizesFit n m; refusal = 74 }
+
+abbrev pub clockAndName : ℕ → List ℕ → List Check
+clockAndName clock d = record { passes = isReading clock; refusal = 62 } ∷ record { passes = isName d; refusal = 60 } ∷ []
+
 -- what a store checks of clock, domain, id and policy: 62, 60, 80, 50 to 52, 71
 unfoldable pub argumentChecks : ℕ → (d i p : List ℕ) → List Check
 argumentChecks clock d i p =
-    record { passes = isReading clock; refusal = 62 }
-    ∷ record { passes = isName d; refusal = 60 }
-    ∷ record { passes = isId i; refusal = 80 }
+    clockAndName clock d
+    ++ (record { passes = isId i; refusal = 80 }
     ∷ record { passes = isPolicy p; refusal = policyAnswer p .number }
     ∷ record { passes = leb (length p) room; refusal = 71 }
-    ∷ []
+    ∷ [])
 
 -- all that a store checks: 74 first, 70 last
 unfoldable pub storeChecks : ℕ → (d i p : List ℕ) → List CacheEntry → List ℕ → List Check
 storeChecks clock d i p t x =
-    record { passes = sizesFit (length t) (length x); refusal = 74 }
+    sizesCheck (length t) (length x)
     ∷ (argumentChecks clock d i p ++ (record { passes = ltb (storePlace clock d (contents t x)) (length t); refusal = 70 } ∷ []))
 
 -- the refusal of a store, or none

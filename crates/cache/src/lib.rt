@@ -189,7 +189,7 @@ fn is_rest_of(field: &[u8], domain: &[u8]) -> bool
 fn fields_fit(e: CacheEntry) -> bool
     ensures { λ r. ⌜ r ≡ fieldsFit e ⌝ }
 {
-    if 1024 < e.length {
+    if (ROOM as u64) < e.length {
         return false;
     }
     let domain = e.domain;
@@ -198,8 +198,8 @@ fn fields_fit(e: CacheEntry) -> bool
         return false;
     }
     let id = e.id;
-    let tagged = is_id_field(&id);
-    if !tagged {
+    let id_fits = is_id_field(&id);
+    if !id_fits {
         return false;
     }
     clock::is_reading(Reading(e.fetched))
@@ -457,16 +457,16 @@ pub fn plan_store<'a>(
     if m != BUFFER {
         return refused_plan(74, n, m);
     }
-    let read = clock::is_reading(Reading(clock));
-    if !read {
+    let clock_fits = clock::is_reading(Reading(clock));
+    if !clock_fits {
         return refused_plan(62, n, m);
     }
     let named = names::is_name(domain);
     if !named {
         return refused_plan(60, n, m);
     }
-    let tagged = txt::is_id(id);
-    if !tagged {
+    let id_fits = txt::is_id(id);
+    if !id_fits {
         return refused_plan(80, n, m);
     }
     let answer = policies::read_policy(policy);
@@ -558,8 +558,8 @@ pub fn lookup_answer(clock: u64, domain: &[u8], n: usize, texts: &[u8], s: Found
     if texts.len() != BUFFER {
         return only_number(74);
     }
-    let read = clock::is_reading(Reading(clock));
-    if !read {
+    let clock_fits = clock::is_reading(Reading(clock));
+    if !clock_fits {
         return only_number(62);
     }
     let named = names::is_name(domain);
