@@ -52,6 +52,7 @@ examples: archive
 
 run: examples
 	@echo; $(OUT)/discover examples/domain/records.txt examples/domain/policy.txt
+	@echo; $(OUT)/discover examples/domain/records.txt examples/domain/wrong-policy.txt || [ $$? -eq 1 ]
 	@echo; $(OUT)/relay examples/scenarios/*.txt
 
 # The proofs, the must-fail edits and the cases first, since the archive is then built of what they proved; then the tests in C

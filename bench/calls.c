@@ -26,7 +26,7 @@ static struct answer call_judge_host(const struct implementation *implementation
         f->dns_ids.at, f->dns_ids.length, f->dns_id_lengths.at, f->dns_id_lengths.length,
         f->common_name_given, f->common_name.at, f->common_name.length);
 
-    return (struct answer){{a.number, a.tlsa_questions, 0, 0}};
+    return (struct answer){{a.number, a.tlsa_questions}};
 }
 
 /* What the store before wrote is put back first, so that every store has the same to do. Callgrind counts inside the call alone. */
@@ -40,7 +40,7 @@ static struct answer call_cache_store(const struct implementation *implementatio
         c->clock, c->domain.at, c->domain.length, c->id.at, c->id.length, c->policy.at, c->policy.length,
         c->lent->table, TWEEDSTORK_CACHE_ENTRIES, c->lent->texts, sizeof c->lent->texts);
 
-    return (struct answer){{a.number, a.length, 0, 0}};
+    return (struct answer){{a.number, a.length}};
 }
 
 /* Not inlined: its answer, the longest of all, is no part of the stack that is measured for the other calls. */
@@ -50,7 +50,7 @@ __attribute__((noinline)) static struct answer call_cache_lookup(const struct im
         c->clock, c->domain.at, c->domain.length, c->lent->table, TWEEDSTORK_CACHE_ENTRIES, c->lent->texts, sizeof c->lent->texts);
 
     memcpy(output.at, &a, sizeof a);
-    return (struct answer){{a.number, 0, 0, 0}};
+    return (struct answer){{a.number}};
 }
 
 struct answer make_call(const struct implementation *implementation, const struct input *input, size_t step)
@@ -60,15 +60,15 @@ struct answer make_call(const struct implementation *implementation, const struc
     switch (input->call) {
     case READ_TXT: {
         struct tweedstork_txt_answer a = implementation->read_txt(first.at, first.length, second.at, second.length, output.at, output.length);
-        return (struct answer){{a.number, a.id_start, a.id_length, 0}};
+        return (struct answer){{a.number, a.id_start, a.id_length}};
     }
     case READ_POLICY: {
         struct tweedstork_policy_answer a = implementation->read_policy(first.at, first.length);
-        return (struct answer){{a.number, a.mode, a.lifetime, a.mx_count}};
+        return (struct answer){{a.number, a.mode, a.lifetime, a.mx_count, a.line, a.offset}};
     }
     case NEXT_HOST: {
         struct tweedstork_message_answer a = implementation->next_host(TWEEDSTORK_MX_ANSWERED, first.at, first.length, second.at, second.length);
-        return (struct answer){{a.number, a.position, 0, 0}};
+        return (struct answer){{a.number, a.position}};
     }
     case CACHE_STORE:
         return call_cache_store(implementation, &input->cache);
@@ -109,22 +109,30 @@ static int check_cache(const struct cache_call *c, int is_store)
     return memcmp(c->lent, c->after, sizeof *c->lent) == 0;
 }
 
+static void print_answer(const char *word, const struct answer *answer)
+{
+    fprintf(stderr, "%s", word);
+    for (size_t i = 0; i < ANSWER_FIELDS; i++)
+        fprintf(stderr, " %" PRIu64, answer->fields[i]);
+}
+
 static int check_call(const struct implementation *implementation, const struct input *input, size_t step)
 {
-    const uint64_t *expected = input->expected[step].fields;
+    const struct answer *expected = &input->expected[step];
 
     prepare(input);
     struct answer got = make_call(implementation, input, step);
-    int same = memcmp(got.fields, expected, sizeof got.fields) == 0;
+    int same = memcmp(&got, expected, sizeof got) == 0;
     if (input->text.length != 0 && memcmp(input->output.at, input->text.at, input->text.length) != 0)
         same = 0;
     if (input->cache.lent != NULL && !check_cache(&input->cache, input->call == CACHE_STORE))
         same = 0;
-    if (!same)
-        fprintf(stderr, "bench: %s, \"%s\" (table %d), call %zu: expected %" PRIu64 " %" PRIu64 " %" PRIu64 " %" PRIu64
-                ", got %" PRIu64 " %" PRIu64 " %" PRIu64 " %" PRIu64 ", or something else in the output or the cache\n",
-                implementation->name, input->name, (int)input->table, step, expected[0], expected[1], expected[2], expected[3],
-                got.fields[0], got.fields[1], got.fields[2], got.fields[3]);
+    if (!same) {
+        fprintf(stderr, "bench: %s, \"%s\" (table %d), call %zu:", implementation->name, input->name, (int)input->table, step);
+        print_answer(" expected", expected);
+        print_answer(", got", &got);
+        fprintf(stderr, ", or something else in the output or the cache\n");
+    }
     return same;
 }
 

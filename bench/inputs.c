@@ -112,7 +112,7 @@ static void expect(struct input *input, size_t step, uint64_t number, uint64_t s
 
 static const char policy_head[] = "version: STSv1\nmode: enforce\nmax_age: 604800\n";
 static const char small_policy[] = "version: STSv1\nmode: enforce\nmx: *.example.com\nmax_age: 604800\n";
-enum { MAX_AGE = 604800, POLICY_HEAD = sizeof policy_head - 1, MX_LINE = 24 };
+enum { MAX_AGE = 604800, POLICY_HEAD = sizeof policy_head - 1, HEAD_LINES = 3, MX_LINE = 24 };
 
 /* An mx line of a given length, its end included: mx: m000007.example.com */
 static void put_mx_line(struct bytes line, size_t number)
@@ -153,6 +153,29 @@ static void make_long_value_policy(struct input *input, size_t size)
     expect(input, 0, TWEEDSTORK_POLICY_ACCEPTED, TWEEDSTORK_ENFORCE, MAX_AGE, 1);
 }
 
+/* Puts another byte in the place of the last one, so that the last of these lines is the only one that offends: all of them have to be read. */
+static void spoil_last_line(struct input *input, uint8_t byte, uint64_t lines, uint64_t number)
+{
+    struct bytes body = input->first;
+    size_t start = body.length - 1;
+
+    body.at[start] = byte;
+    while (body.at[start - 1] != '\n')
+        start--;
+    input->expected[0] = (struct answer){{number, 0, 0, 0, lines, start}};
+}
+
+static void add_refused_policies(struct inputs *inputs)
+{
+    struct input *input = add(inputs, CALLS, READ_POLICY, "policy of 4 lines, 63 bytes, refused at the last line");
+
+    input->first = text(small_policy);
+    spoil_last_line(input, 's', 4, TWEEDSTORK_POLICY_BAD_MAX_AGE);
+    input = add(inputs, CALLS, READ_POLICY, "policy of 64 KiB, mx lines, refused at the last line");
+    make_mx_policy(input, 65536);
+    spoil_last_line(input, '.', HEAD_LINES + input->expected[0].fields[3], TWEEDSTORK_POLICY_BAD_MX);
+}
+
 /* Policies of 4 KB with little to read at a time: values of 1 to 5 letters, and labels of one. */
 static void add_short_policies(struct inputs *inputs)
 {
@@ -176,6 +199,7 @@ static void add_policies(struct inputs *inputs)
     make_mx_policy(add(inputs, CALLS, READ_POLICY, "policy of 64 KiB, mx lines"), 65536);
     make_long_value_policy(add(inputs, CALLS, READ_POLICY, "policy of 64 KiB, one long value"), 65536);
     add_short_policies(inputs);
+    add_refused_policies(inputs);
     for (size_t size = 64; size <= 65536; size *= 4)
         make_mx_policy(add_counted(inputs, POLICY_BYTES, READ_POLICY, size), size);
 }

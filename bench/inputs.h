@@ -46,9 +46,11 @@ struct cache_call {
     size_t place;                                  /* of a store: the entry that it writes */
 };
 
+enum { ANSWER_FIELDS = 6 };
+
 /* An answer of any call: its number, then its other fields, then zeros. A lookup's other fields stand in the input's output. */
 struct answer {
-    uint64_t fields[4];
+    uint64_t fields[ANSWER_FIELDS];
 };
 
 enum call { READ_TXT, READ_POLICY, CACHE_STORE, CACHE_LOOKUP, JUDGE_HOST, NEXT_HOST };

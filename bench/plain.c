@@ -297,11 +297,12 @@ struct tweedstork_txt_answer plain_read_txt(
 enum { POLICY_LIMIT = 65536, LIFETIME_LIMIT = 31557600 };
 
 struct policy {
-    uint64_t mode;       /* zero: not read yet */
+    uint64_t mode;          /* zero: not read yet */
     uint64_t lifetime;
     uint64_t mx_count;
+    uint64_t line, offset;  /* of the line that offends; zero where none does */
     int has_version, has_max_age;
-    int covers_host;     /* does one of its patterns match the host? */
+    int covers_host;        /* does one of its patterns match the host? */
 };
 
 /* The length of the well-formed UTF-8 sequence (RFC 3629) of 2 to 4 bytes at the front, or zero. */
@@ -373,41 +374,59 @@ static int read_max_age(struct slice value, uint64_t *lifetime)
     return 1;
 }
 
-/* Takes in a field; host may be NULL. Of version, mode and max_age the first counts. */
-static int take_field(struct policy *policy, struct slice name, struct slice value, const struct reference *host)
+/* Takes in a field; host may be NULL. Of version, mode and max_age the first counts. Zero, or the refusal. */
+static uint64_t take_field(struct policy *policy, struct slice name, struct slice value, const struct reference *host)
 {
     if (IS(name, "mx")) {
         policy->mx_count++;
         if (host != NULL && !policy->covers_host)
             policy->covers_host = covers(value, host);
-        return is_pattern(value);
+        return is_pattern(value) ? 0 : TWEEDSTORK_POLICY_BAD_MX;
     }
     if (IS(name, "version") && !policy->has_version) {
         policy->has_version = 1;
-        return IS(value, "STSv1");
+        return IS(value, "STSv1") ? 0 : TWEEDSTORK_POLICY_BAD_VERSION;
     }
     if (IS(name, "mode") && policy->mode == 0)
-        return (policy->mode = mode_of(value)) != 0;
+        return (policy->mode = mode_of(value)) != 0 ? 0 : TWEEDSTORK_POLICY_BAD_MODE;
     if (IS(name, "max_age") && !policy->has_max_age) {
         policy->has_max_age = 1;
-        return read_max_age(value, &policy->lifetime);
+        return read_max_age(value, &policy->lifetime) ? 0 : TWEEDSTORK_POLICY_BAD_MAX_AGE;
     }
-    return 1;
+    return 0;
+}
+
+/* Reads a line and takes in its field. Zero, or the refusal: its form comes before its content. */
+static uint64_t read_policy_line(struct reader *r, const struct reference *host, struct policy *policy)
+{
+    struct slice name, value;
+
+    if (!read_field_name(r, ':', &name) || !read_policy_value(r, &value) || !read_line_end(r))
+        return TWEEDSTORK_POLICY_BAD_LINE;
+    return take_field(policy, name, value, host);
 }
 
 /* TWEEDSTORK_POLICY_ACCEPTED, or the refusal. */
 static uint64_t parse_policy(struct slice body, const struct reference *host, struct policy *policy)
 {
-    *policy = (struct policy){0, 0, 0, 0, 0, 0};
+    *policy = (struct policy){0, 0, 0, 0, 0, 0, 0, 0};
     if (body.length > POLICY_LIMIT)
         return TWEEDSTORK_POLICY_LONG;
-    if (body.length == 0)
-        return TWEEDSTORK_POLICY_MALFORMED;
+    if (body.length == 0) {
+        policy->line = 1;
+        return TWEEDSTORK_POLICY_BAD_LINE;
+    }
     struct reader r = {body.at, body.at + body.length};
+    uint64_t line = 0;
     do {
-        struct slice name, value;
-        if (!read_field_name(&r, ':', &name) || !read_policy_value(&r, &value) || !read_line_end(&r) || !take_field(policy, name, value, host))
-            return TWEEDSTORK_POLICY_MALFORMED;
+        const uint8_t *start = r.at;
+        uint64_t refusal = read_policy_line(&r, host, policy);
+        line++;
+        if (refusal != 0) {
+            policy->line = line;
+            policy->offset = (uint64_t)(start - body.at);
+            return refusal;
+        }
     } while (r.at < r.end);
     if (!policy->has_version || policy->mode == 0 || !policy->has_max_age || (policy->mx_count == 0 && policy->mode != TWEEDSTORK_NONE))
         return TWEEDSTORK_POLICY_INCOMPLETE;
@@ -420,8 +439,8 @@ struct tweedstork_policy_answer plain_read_policy(const uint8_t *body, size_t bo
     uint64_t number = parse_policy((struct slice){body, body_length}, NULL, &policy);
 
     if (number != TWEEDSTORK_POLICY_ACCEPTED)
-        return (struct tweedstork_policy_answer){number, 0, 0, 0};
-    return (struct tweedstork_policy_answer){number, policy.mode, policy.lifetime, policy.mx_count};
+        return (struct tweedstork_policy_answer){number, 0, 0, 0, policy.line, policy.offset};
+    return (struct tweedstork_policy_answer){number, policy.mode, policy.lifetime, policy.mx_count, 0, 0};
 }
 
 /* ---- clocks ---- */

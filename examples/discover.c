@@ -1,5 +1,5 @@
 /*
- * What a domain says of MTA-STS: reads its TXT records and its policy from files and prints what they say.
+ * What a domain says of MTA-STS: reads its TXT records and its policy from files and prints what they say, or what is wrong.
  *
  * Usage: discover RECORDS POLICY
  * RECORDS has the TXT records of _mta-sts.DOMAIN, one a line; POLICY is the policy's body as it was fetched.
@@ -12,6 +12,7 @@
 #include "tweedstork.h"
 
 #define MOST_BYTES 100000
+#define MOST_SHOWN 100
 
 /* Reads a whole file; -1 where it cannot be opened, or has more than fits. */
 static long read_file(const char *path, uint8_t *bytes)
@@ -73,11 +74,39 @@ static int show_records(const uint8_t *text, size_t length)
     return 0;
 }
 
+/*
+ * Shows the line of a policy that begins at the offset: without its LF or CRLF, of a long line the front, and each byte that does
+ * not print as \xHH.
+ */
+static void show_line(const uint8_t *body, size_t length, size_t offset)
+{
+    size_t end = offset;
+    while (end < length && body[end] != '\n')
+        end++;
+    if (end < length && end > offset && body[end - 1] == '\r')
+        end--;
+    putchar('"');
+    for (size_t at = offset; at < end && at < offset + MOST_SHOWN; at++) {
+        if (body[at] >= 0x20 && body[at] <= 0x7e && body[at] != '"' && body[at] != '\\')
+            putchar(body[at]);
+        else
+            printf("\\x%02x", body[at]);
+    }
+    putchar('"');
+    if (end - offset > MOST_SHOWN)
+        printf(" and so on, %zu bytes", end - offset);
+    putchar('\n');
+}
+
 static int show_policy(const uint8_t *body, size_t length)
 {
     struct tweedstork_policy_answer answer = tweedstork_read_policy(body, length);
     if (answer.number != TWEEDSTORK_POLICY_ACCEPTED) {
         printf("policy: answer %" PRIu64 ": %s\n", answer.number, tweedstork_answer_words(answer.number));
+        if (answer.line > 0) {
+            printf("policy: line %" PRIu64 ", at byte %" PRIu64 ": ", answer.line, answer.offset);
+            show_line(body, length, (size_t)answer.offset);
+        }
         return 1;
     }
     printf("policy: answer %" PRIu64 ": mode %s, for %" PRIu64 " seconds, with %" PRIu64 " mx patterns\n", answer.number, mode_words(answer.mode), answer.lifetime, answer.mx_count);

@@ -25,7 +25,7 @@ static const char *const numbers[] = {"call (1 store, 2 lookup)", "clock", NULL}
 enum { STORE = 1, LOOKUP };
 static const char *const fields[] = {
     "number", "length", "text_start", "text_length", "fetched", "id_length", "id_0", "id_8", "id_16", "id_24", NULL};
-static const uint8_t answers[] = {15, 50, 51, 52, 60, 62, 70, 71, 72, 74, 80, 0};
+static const uint8_t answers[] = {15, 50, 52, 53, 54, 55, 56, 57, 60, 62, 70, 71, 72, 74, 80, 0};
 
 typedef struct tweedstork_cache_entry entry;
 enum { ENTRIES = TWEEDSTORK_CACHE_ENTRIES, ROOM = TWEEDSTORK_CACHE_TEXT_ROOM, TEXTS_SIZE = TWEEDSTORK_CACHE_TEXTS_SIZE };

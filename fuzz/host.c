@@ -37,8 +37,8 @@ static const char *const numbers[] = {
     "handshake", "certificates_given", "trusted_root", "common_name_given", NULL};
 static const char *const outputs[] = {NULL};
 static const char *const fields[] = {"number", "tlsa_questions", NULL};
-static const uint8_t answers[] = {1,  2,  3,  4,  5,  10, 11, 12, 13, 14, 20, 21, 22, 23, 24, 25,
-                                  26, 27, 50, 51, 52, 60, 61, 62, 64, 65, 66, 67, 0};
+static const uint8_t answers[] = {1,  2,  3,  4,  5,  10, 11, 12, 13, 14, 20, 21, 22, 23, 24, 25, 26,
+                                  27, 50, 52, 53, 54, 55, 56, 57, 60, 61, 62, 64, 65, 66, 67, 0};
 
 enum { DIGEST_BYTES = 192 }; /* SHA-256 and SHA-512 of the certificate, then of its key info */
 

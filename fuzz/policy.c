@@ -4,8 +4,8 @@
 static const char *const slices[] = {"body", NULL};
 static const char *const outputs[] = {NULL};
 static const char *const numbers[] = {NULL};
-static const char *const fields[] = {"number", "mode", "lifetime", "mx_count", NULL};
-static const uint8_t answers[] = {7, 50, 51, 52, 0};
+static const char *const fields[] = {"number", "mode", "lifetime", "mx_count", "line", "offset", NULL};
+static const uint8_t answers[] = {7, 50, 52, 53, 54, 55, 56, 57, 0};
 
 static void decode(struct text input, struct call *call)
 {
@@ -20,6 +20,8 @@ static void ask(int independent, const struct call *call, uint64_t *answer)
     answer[1] = a.mode;
     answer[2] = a.lifetime;
     answer[3] = a.mx_count;
+    answer[4] = a.line;
+    answer[5] = a.offset;
 }
 
 const struct target target = {"policy", answers, numbers, slices, fields, outputs, NULL, decode, NULL, ask};

@@ -27,7 +27,7 @@
  * - an underscore is no part of a name (60, 61), also in an expanded name that no rule reads;
  * - the expanded next-hop is no reference yet (RFC 7672, 3.2.2), and a SHA-256 record still counts beside a SHA-512 one
  *   (digest agility, RFC 7672, 5): both will be added;
- * - a policy with an empty last line is malformed (51), as the RFC's grammar has it; some readers let it pass.
+ * - a policy with an empty last line is refused (53), as the RFC's grammar has it; some readers let it pass.
  *
  * Conventions
  * - A number is a uint64_t. A byte slice is a pointer and a length; NULL with length 0 is an empty slice. Every length is in
@@ -39,8 +39,8 @@
  *   either end of a label, no dot at the end (cut off the one that resolvers print). Case doesn't matter; an international
  *   name is given as A-labels (xn--).
  * - An answer is a struct; its first field is the answer number, one of enum tweedstork_number. It is never zero.
- * - A refusal (40 to 80) has zero in every other field, and leaves the memory that you passed as it was, but for 42 (see
- *   tweedstork_read_txt).
+ * - A refusal (40 to 80) has zero in every other field, but for the line and offset of 53 to 57 (see tweedstork_read_policy), and
+ *   leaves the memory that you passed as it was, but for 42 (see tweedstork_read_txt).
  * - No call keeps a pointer, allocates or has state. Calls may run on any number of threads at once, but for a store into a
  *   cache: it is alone with its table and texts.
  */
@@ -55,8 +55,8 @@ extern "C" {
 #endif
 
 /* The version of this header. A number that another version gave a meaning to is never given a second one. */
-#define TWEEDSTORK_VERSION "1.1.0"
-#define TWEEDSTORK_VERSION_NUMBER 10100 /* major * 10000 + minor * 100 + patch */
+#define TWEEDSTORK_VERSION "1.2.0"
+#define TWEEDSTORK_VERSION_NUMBER 10200 /* major * 10000 + minor * 100 + patch */
 
 /* The version of the archive. It equals TWEEDSTORK_VERSION_NUMBER where header and archive belong together. */
 uint64_t tweedstork_version(void);
@@ -105,9 +105,15 @@ enum tweedstork_number {
                                                empty one, or a character string that runs past its record */
     TWEEDSTORK_TXT_OUTPUT_SHORT = 44,       /* refused: the output is too short for the TXT record */
     TWEEDSTORK_POLICY_LONG = 50,            /* refused: the policy has over 65,536 bytes */
-    TWEEDSTORK_POLICY_MALFORMED = 51,       /* refused: the policy is malformed (perhaps it is empty, or has a zero byte or an
-                                               empty line) */
+    /* 51 said until version 1.1.0 that a policy is malformed. No call answers it any more, and it gets no other meaning: 53 to 57
+       say what is wrong. */
     TWEEDSTORK_POLICY_INCOMPLETE = 52,      /* refused: the policy lacks version, mode, max_age or mx */
+    TWEEDSTORK_POLICY_BAD_LINE = 53,        /* refused: a line of the policy is not of the form 'name: value' (perhaps the policy
+                                               is empty, or has an empty line, a lone CR or a zero byte) */
+    TWEEDSTORK_POLICY_BAD_VERSION = 54,     /* refused: the policy's version is not 'STSv1' */
+    TWEEDSTORK_POLICY_BAD_MODE = 55,        /* refused: the policy's mode is none of 'enforce', 'testing' and 'none' */
+    TWEEDSTORK_POLICY_BAD_MAX_AGE = 56,     /* refused: the policy's max_age is not 1 to 10 digits */
+    TWEEDSTORK_POLICY_BAD_MX = 57,          /* refused: an mx of the policy is neither a name nor '*.' and a name */
     TWEEDSTORK_BAD_NEXT_HOP = 60,           /* refused: the next-hop, or a cache's domain, is no name (perhaps it is empty, or
                                                has a final dot, a zero byte or an underscore) */
     TWEEDSTORK_BAD_HOST = 61,               /* refused: the host or the expanded name of an alias is no name (perhaps it is
@@ -171,9 +177,14 @@ static inline const char *tweedstork_answer_words(uint64_t number)
                "string that runs past its record";
     case TWEEDSTORK_TXT_OUTPUT_SHORT: return "refused: the output is too short for the TXT record";
     case TWEEDSTORK_POLICY_LONG: return "refused: the policy has over 65,536 bytes";
-    case TWEEDSTORK_POLICY_MALFORMED:
-        return "refused: the policy is malformed (perhaps it is empty, or has a zero byte or an empty line)";
     case TWEEDSTORK_POLICY_INCOMPLETE: return "refused: the policy lacks version, mode, max_age or mx";
+    case TWEEDSTORK_POLICY_BAD_LINE:
+        return "refused: a line of the policy is not of the form 'name: value' (perhaps the policy is empty, or has an empty "
+               "line, a lone CR or a zero byte)";
+    case TWEEDSTORK_POLICY_BAD_VERSION: return "refused: the policy's version is not 'STSv1'";
+    case TWEEDSTORK_POLICY_BAD_MODE: return "refused: the policy's mode is none of 'enforce', 'testing' and 'none'";
+    case TWEEDSTORK_POLICY_BAD_MAX_AGE: return "refused: the policy's max_age is not 1 to 10 digits";
+    case TWEEDSTORK_POLICY_BAD_MX: return "refused: an mx of the policy is neither a name nor '*.' and a name";
     case TWEEDSTORK_BAD_NEXT_HOP:
         return "refused: the next-hop, or a cache's domain, is no name (perhaps it is empty, or has a final dot, a zero byte "
                "or an underscore)";
@@ -294,15 +305,27 @@ struct tweedstork_policy_answer {
     uint64_t mode;
     uint64_t lifetime;
     uint64_t mx_count;
+    uint64_t line;                          /* the first line that offends, counted from 1 */
+    uint64_t offset;                        /* where that line begins in the body, in bytes */
 };
 
 /*
- * What does the body of an MTA-STS policy say (RFC 8461, 3.2)?
+ * What does the body of an MTA-STS policy say (RFC 8461, 3.2), or what is wrong with it?
  *
  * Takes:   body: the policy as fetched.
  * Answers: TWEEDSTORK_POLICY_ACCEPTED with its mode (enum tweedstork_mode), its lifetime in seconds (max_age, at most
- *          31,557,600) and how many mx lines it has. Refusals, in this order: TWEEDSTORK_POLICY_LONG,
- *          TWEEDSTORK_POLICY_MALFORMED, TWEEDSTORK_POLICY_INCOMPLETE.
+ *          31,557,600) and how many mx lines it has.
+ *
+ *          Refusals, in this order:
+ *          - TWEEDSTORK_POLICY_LONG;
+ *          - TWEEDSTORK_POLICY_BAD_LINE, TWEEDSTORK_POLICY_BAD_VERSION, TWEEDSTORK_POLICY_BAD_MODE,
+ *            TWEEDSTORK_POLICY_BAD_MAX_AGE, TWEEDSTORK_POLICY_BAD_MX: what is wrong with the first line that offends, and with
+ *            the number that line and its offset. Within a line, form comes before content. A body of zero bytes is
+ *            TWEEDSTORK_POLICY_BAD_LINE at line 1, offset 0. The line goes up to its LF or CRLF, or the body's end; a CR
+ *            elsewhere ends none. Show it to people with what does not print made visible (examples/discover.c);
+ *          - TWEEDSTORK_POLICY_INCOMPLETE: every line is good, and one is missing.
+ *
+ *          line and offset are zero but for those five.
  * Leaves:  all memory as it was.
  */
 struct tweedstork_policy_answer tweedstork_read_policy(const uint8_t *body, size_t body_length);
@@ -362,7 +385,8 @@ struct tweedstork_write_answer {
  *          - 70 and 71: the policy is good, and the relay judges this message's hosts by it. But it is not kept, so whoever
  *            can stop the next fetch switches it off, unless the relay keeps it by other means. After 71 an earlier entry of
  *            the domain stays, and is found as long as it is live.
- *          - 50 to 52 are as a fetch that failed: what the cache has for the domain stays, and counts as long as it is live.
+ *          - 50 and 52 to 57 are as a fetch that failed: what the cache has for the domain stays, and counts as long as it is
+ *            live. Only tweedstork_read_policy says which line it is.
  *          - 62, 74 and 80 are mistakes of the relay's own; so is 60, unless it comes of the recipient's address. None of them
  *            means that there is no policy: until the mistake is mended, the relay delays.
  * Leaves:  the one entry and the bytes of its text written, in texts from 1024 * its place on; all else as it was. The
@@ -458,7 +482,7 @@ struct tweedstork_host_answer {
  *          tlsa_questions is how many of the given TLSA answers the rules read, 0 to 2 (for logs: no decision needs it).
  *
  *          Refusals, in this order: TWEEDSTORK_BAD_CODE, TWEEDSTORK_BAD_CLOCK, TWEEDSTORK_BAD_NEXT_HOP, TWEEDSTORK_BAD_HOST,
- *          the policy's (50 to 52), TWEEDSTORK_BAD_TLSA, TWEEDSTORK_BAD_CERTIFICATES, and last TWEEDSTORK_FACT_MISSING.
+ *          those of tweedstork_read_policy, TWEEDSTORK_BAD_TLSA, TWEEDSTORK_BAD_CERTIFICATES, and last TWEEDSTORK_FACT_MISSING.
  *          Everything supplied is checked, also what wasn't asked for. A refusal is never a permission to deliver.
  *          - 61, 64 and 65 may come of what the domain or the server sent: the relay leaves this host out and goes on with the
  *            others. They may also come of the relay's own mistake. It is the relay's where a name ends in a dot or isn't given
@@ -470,7 +494,7 @@ struct tweedstork_host_answer {
  *            path; and DNS-IDs that can match none of host, expanded name and next-hop, as long as one DNS-ID stays.
  *          - 60 may come of the recipient's address (user@my_shop.example): it holds for every host, and by these rules nobody
  *            may be given the message: the relay returns or delays it.
- *          - 50 to 52 cannot come where the relay gives only bodies that tweedstork_read_policy accepted.
+ *          - 50 and 52 to 57 cannot come where the relay gives only bodies that tweedstork_read_policy accepted.
  *          - 62, 66 and 67 are mistakes of the relay's own.
  * Leaves:  all memory as it was.
  */

@@ -96,26 +96,86 @@ static void txt_records(void)
     read_txt("nothing at all, as NULL", NULL, 0, list_of(NULL, 0, 0), "", TWEEDSTORK_TXT_NO_CANDIDATE, 0, 0, "");
 }
 
-static void read_policy(const char *name, const char *body, size_t length, uint64_t number, uint64_t mode, uint64_t lifetime, uint64_t mx_count)
+/* Asks, and sees that the body is as it was. A body of NULL is so many letters. */
+static void read_policy(const char *name, const char *body, size_t length, struct tweedstork_policy_answer wanted)
 {
-    uint8_t *bytes = length == 0 ? NULL : memory(length);
+    uint8_t *bytes = length == 0 ? NULL : memory(length), *before = length == 0 ? NULL : memory(length);
     if (length != 0 && body != NULL)
         memcpy(bytes, body, length);
     else if (length != 0)
         memset(bytes, 'a', length);
+    if (length != 0)
+        memcpy(before, bytes, length);
     struct tweedstork_policy_answer answer = tweedstork_read_policy(bytes, length);
-    expect(name, answer.number == number && answer.mode == mode && answer.lifetime == lifetime && answer.mx_count == mx_count);
+    if (answer.number != wanted.number || answer.line != wanted.line || answer.offset != wanted.offset)
+        printf("%s: expected %" PRIu64 " at line %" PRIu64 ", offset %" PRIu64 ", got %" PRIu64 " at line %" PRIu64 ", offset %" PRIu64 "\n", name, wanted.number, wanted.line, wanted.offset, answer.number, answer.line, answer.offset);
+    expect(name, memcmp(&answer, &wanted, sizeof answer) == 0);
+    expect(name, length == 0 || memcmp(before, bytes, length) == 0);
+}
+
+/* Without a line: accepted with these, or 50 or 52. */
+static void reads(const char *name, const char *body, size_t length, uint64_t number, uint64_t mode, uint64_t lifetime, uint64_t mx_count)
+{
+    struct tweedstork_policy_answer wanted = {number, mode, lifetime, mx_count, 0, 0};
+    read_policy(name, body, length, wanted);
+}
+
+/* Refused with 53 to 57 for this line, which begins at this offset. */
+static void offends(const char *name, const char *body, size_t length, uint64_t number, uint64_t line, uint64_t offset)
+{
+    struct tweedstork_policy_answer wanted = {number, 0, 0, 0, line, offset};
+    read_policy(name, body, length, wanted);
 }
 
 static void policies(void)
 {
     static const char body[] = "version: STSv1\r\nmode: enforce\r\nmx: mail.example.com\r\nmx: *.example.net\r\nmax_age: 604800";
-    read_policy("a policy", body, sizeof body - 1, TWEEDSTORK_POLICY_ACCEPTED, TWEEDSTORK_ENFORCE, 604800, 2);
-    read_policy("a policy without its last line", body, sizeof body - 1 - 15, TWEEDSTORK_POLICY_INCOMPLETE, 0, 0, 0);
-    read_policy("a policy cut inside a line end", body, sizeof body - 1 - 16, TWEEDSTORK_POLICY_MALFORMED, 0, 0, 0);
-    read_policy("no bytes, as NULL", NULL, 0, TWEEDSTORK_POLICY_MALFORMED, 0, 0, 0);
-    read_policy("65,536 bytes", NULL, 65536, TWEEDSTORK_POLICY_MALFORMED, 0, 0, 0);
-    read_policy("65,537 bytes", NULL, 65537, TWEEDSTORK_POLICY_LONG, 0, 0, 0);
+    reads("a policy", body, sizeof body - 1, TWEEDSTORK_POLICY_ACCEPTED, TWEEDSTORK_ENFORCE, 604800, 2);
+    reads("a policy without its last line", body, sizeof body - 1 - 15, TWEEDSTORK_POLICY_INCOMPLETE, 0, 0, 0);
+    offends("a policy cut inside a line end", body, sizeof body - 1 - 16, TWEEDSTORK_POLICY_BAD_LINE, 4, 53);
+    offends("a policy cut before a value", body, sizeof body - 1 - 6, TWEEDSTORK_POLICY_BAD_LINE, 5, 72);
+    offends("a policy cut after a star and a dot", body, 59, TWEEDSTORK_POLICY_BAD_MX, 4, 53);
+    offends("a policy cut inside its mode", body, 25, TWEEDSTORK_POLICY_BAD_MODE, 2, 16);
+    offends("a policy cut inside its version", body, 13, TWEEDSTORK_POLICY_BAD_VERSION, 1, 0);
+    offends("no bytes, as NULL", NULL, 0, TWEEDSTORK_POLICY_BAD_LINE, 1, 0);
+    offends("65,536 bytes", NULL, 65536, TWEEDSTORK_POLICY_BAD_LINE, 1, 0);
+    reads("65,537 bytes", NULL, 65537, TWEEDSTORK_POLICY_LONG, 0, 0, 0);
+}
+
+/* The first line that offends, counted from 1, and the offset where it begins. */
+static void policy_faults(void)
+{
+    static const struct {
+        const char *name, *body;
+        uint64_t number, line, offset;
+    } faults[] = {
+        {"an empty line", "version: STSv1\n\nmode: none\nmax_age: 1\n", TWEEDSTORK_POLICY_BAD_LINE, 2, 15},
+        {"an empty line at the end", "version: STSv1\nmode: none\nmax_age: 1\n\n", TWEEDSTORK_POLICY_BAD_LINE, 4, 37},
+        {"a lone CR, which ends no line", "version: STSv1\nmode: none\rmax_age: 1\n", TWEEDSTORK_POLICY_BAD_LINE, 2, 15},
+        {"a blank before the colon, in the last line", "version: STSv1\nmode: none\nmax_age : 1", TWEEDSTORK_POLICY_BAD_LINE, 3, 26},
+        {"form before content", "version: STS\tv2\nmode: none\nmax_age: 1\n", TWEEDSTORK_POLICY_BAD_LINE, 1, 0},
+        {"a bad version", "mode: none\nversion: STSv2\nmax_age: 1\n", TWEEDSTORK_POLICY_BAD_VERSION, 2, 11},
+        {"a bad mode, after CRLF", "version: STSv1\r\nmode: None\r\nmax_age: 1\r\n", TWEEDSTORK_POLICY_BAD_MODE, 2, 16},
+        {"a bad max_age, in the last line", "version: STSv1\nmode: none\nmax_age: 12345678901", TWEEDSTORK_POLICY_BAD_MAX_AGE, 3, 26},
+        {"a bad mx, after a good one", "version: STSv1\nmx: a.example\nmx: b.example.\n", TWEEDSTORK_POLICY_BAD_MX, 3, 29},
+        {"the first of several faults", "x: y\nmx: *\nmax_age: x\nmode: x\nversion: x\n\n", TWEEDSTORK_POLICY_BAD_MX, 2, 5},
+        {"a second version's content is not looked at", "version: STSv1\nversion: STSv2\nmode: x\n", TWEEDSTORK_POLICY_BAD_MODE, 3, 30},
+    };
+    for (size_t i = 0; i < sizeof faults / sizeof faults[0]; i++)
+        offends(faults[i].name, faults[i].body, strlen(faults[i].body), faults[i].number, faults[i].line, faults[i].offset);
+}
+
+/* As many lines as 65,536 bytes have room for. */
+static void policies_of_many_lines(void)
+{
+    static char body[65536];
+    for (size_t i = 0; i < sizeof body; i += 4)
+        memcpy(body + i, "a:b\n", 4);
+    reads("16,384 lines", body, sizeof body, TWEEDSTORK_POLICY_INCOMPLETE, 0, 0, 0);
+    body[sizeof body - 4] = ' ';
+    offends("the last of 16,384 lines", body, sizeof body, TWEEDSTORK_POLICY_BAD_LINE, 16384, 65532);
+    memcpy(body + 4000, "mx:a..b\n", 8);
+    offends("line 1,001 of many", body, sizeof body, TWEEDSTORK_POLICY_BAD_MX, 1001, 4000);
 }
 
 /* A host with an insecure address, no policy and nothing learnt; what isn't supplied is NULL. */
@@ -213,6 +273,29 @@ static void matters(const char *name, struct tweedstork_host_facts facts, int wa
     expect(name, wanted == (shows_none == TWEEDSTORK_DANE_MISMATCH || shows_none == TWEEDSTORK_MTA_STS_MISMATCH || shows_none == TWEEDSTORK_FACT_MISSING));
 }
 
+/* A policy is refused as tweedstork_read_policy refuses it. */
+static void host_policies(void)
+{
+    static const struct {
+        const char *policy;
+        uint64_t number;
+    } refused[] = {
+        {"version: STSv1\n", TWEEDSTORK_POLICY_INCOMPLETE},
+        {"", TWEEDSTORK_POLICY_BAD_LINE},
+        {"version: STSv1\nmode: none\nmax_age: 1\n\n", TWEEDSTORK_POLICY_BAD_LINE},
+        {"version: STSv2\nmode: none\nmax_age: 1\n", TWEEDSTORK_POLICY_BAD_VERSION},
+        {"version: STSv1\r\nmode: None\r\nmax_age: 1\r\n", TWEEDSTORK_POLICY_BAD_MODE},
+        {"version: STSv1\nmode: none\nmax_age: -1\n", TWEEDSTORK_POLICY_BAD_MAX_AGE},
+        {"version: STSv1\nmode: enforce\nmax_age: 1\nmx: mail.example.com\nmx: .example.com", TWEEDSTORK_POLICY_BAD_MX},
+    };
+    for (size_t i = 0; i < sizeof refused / sizeof refused[0]; i++) {
+        struct tweedstork_host_facts facts = known(TWEEDSTORK_NO_ALIAS_INSECURE, refused[i].policy);
+        char name[40];
+        snprintf(name, sizeof name, "a host's policy, refused with %u", (unsigned)refused[i].number);
+        judged(name, tweedstork_judge_facts(&facts), refused[i].number, 0);
+    }
+}
+
 static void certificates_matter(void)
 {
     static const char enforce[] = "version: STSv1\nmode: enforce\nmx: *.example.com\nmax_age: 604800\n";
@@ -287,12 +370,16 @@ int main(void)
 {
     expect("tweedstork_host_answer has two numbers", sizeof(struct tweedstork_host_answer) == 16 && offsetof(struct tweedstork_host_answer, tlsa_questions) == 8);
     expect("tweedstork_txt_answer has three numbers", sizeof(struct tweedstork_txt_answer) == 24 && offsetof(struct tweedstork_txt_answer, id_start) == 8 && offsetof(struct tweedstork_txt_answer, id_length) == 16);
-    expect("tweedstork_policy_answer has four numbers", sizeof(struct tweedstork_policy_answer) == 32 && offsetof(struct tweedstork_policy_answer, mode) == 8 && offsetof(struct tweedstork_policy_answer, lifetime) == 16 && offsetof(struct tweedstork_policy_answer, mx_count) == 24);
+    expect("tweedstork_policy_answer has six numbers", sizeof(struct tweedstork_policy_answer) == 48 && offsetof(struct tweedstork_policy_answer, mode) == 8 && offsetof(struct tweedstork_policy_answer, lifetime) == 16 && offsetof(struct tweedstork_policy_answer, mx_count) == 24);
+    expect("tweedstork_policy_answer: the line that offends", offsetof(struct tweedstork_policy_answer, line) == 32 && offsetof(struct tweedstork_policy_answer, offset) == 40);
     expect("tweedstork_message_answer has two numbers", sizeof(struct tweedstork_message_answer) == 16 && offsetof(struct tweedstork_message_answer, position) == 8);
     expect("header and archive are of one version", tweedstork_version() == TWEEDSTORK_VERSION_NUMBER);
     txt_records();
     policies();
+    policy_faults();
+    policies_of_many_lines();
     hosts();
+    host_policies();
     certificates_matter();
     server_names();
     message_hosts();

@@ -259,7 +259,7 @@ static void order_of_refusals(void)
     refuses_slices("a domain that is no name", 60, 1500, text("a..b"), text("-"), over);
     refuses_slices("an id with a hyphen", 80, 1500, text("a.example"), text("-"), over);
     refuses_slices("a policy of 65,537 bytes", 50, 1500, text("a.example"), text("a1"), over);
-    refuses_slices("a malformed policy of 65,536 bytes", 51, 1500, text("a.example"), text("a1"), room);
+    refuses_slices("a policy of 65,536 bytes, its first line of no form", 53, 1500, text("a.example"), text("a1"), room);
     refuses("an incomplete policy", 52, 1500, "a.example", "a1", "version: STSv1\n");
     refuses_slices("a text of 1,025 bytes", 71, 1500, text("a.example"), text("a1"), long_policy);
     refuses("a full table", 70, 1500, "a.example", "a1", one);
@@ -273,9 +273,37 @@ static void empty_arguments(void)
     empty_cache();
     refuses("no domain, as NULL", 60, 1000, "", "a1", one);
     refuses("no id, as NULL", 80, 1000, "a.example", "", one);
-    refuses("no policy, as NULL", 51, 1000, "a.example", "a1", "");
+    refuses("no policy, as NULL", 53, 1000, "a.example", "a1", "");
     finds_nothing("lookup: no domain, as NULL", 60, 1000, text(""));
     finds_nothing("an empty cache", 72, 1000, text("a.example"));
+}
+
+/* A policy that begins with one of these lines is refused, whatever its length; the domain's earlier one stays. */
+static void policies_that_offend(void)
+{
+    static const struct {
+        uint64_t number;
+        const char *line;
+    } faults[] = {
+        {53, ""}, {53, "mode : none"}, {54, "version: STSv2"}, {55, "mode: Enforce"}, {56, "max_age: -1"}, {57, "mx: *.example.org."},
+    };
+    static uint8_t bytes[2 * ROOM];
+
+    empty_cache();
+    stores("a good policy", 0, 1000, "a.example", "a1", one);
+    for (size_t i = 0; i < sizeof faults / sizeof faults[0]; i++) {
+        size_t start = strlen(faults[i].line) + 1;
+        struct tweedstork_slice policy = {bytes, start + sizeof one - 1}, longer = {bytes, start + ROOM + 1};
+        char name[40];
+        snprintf(name, sizeof name, "a policy that is refused with %u", (unsigned)faults[i].number);
+        memcpy(bytes, faults[i].line, start - 1);
+        bytes[start - 1] = '\n';
+        memcpy(bytes + start, policy_of(ROOM + 1).bytes, ROOM + 1);
+        refuses_slices(name, faults[i].number, 1500, text("a.example"), text("a2"), policy);
+        refuses_slices(name, faults[i].number, 1500, text("b.example"), text("b1"), policy);
+        refuses_slices(name, faults[i].number, 1500, text("b.example"), text("b1"), longer);
+        finds("the earlier policy is found", 0, 1500, "a.example");
+    }
 }
 
 static void domains(void)
@@ -419,7 +447,7 @@ static const char *damage(size_t way, struct tweedstork_cache_entry *entry, uint
     case 2: entry->length += (uint64_t)1 << 32; return "a length above 32 bits";
     case 3: entry->length = 0; return "no text";
     case 4: entry->length = 15; return "an incomplete text";
-    case 5: policy[0] = ' '; return "a malformed text";
+    case 5: policy[0] = ' '; return "a text with a line of no form";
     case 6: memset(entry->domain, 0, sizeof entry->domain); return "no domain";
     case 7: entry->domain[9] = '.'; return "a domain with a final dot";
     case 8: entry->domain[10] = 'a'; return "a domain with a zero in it";
@@ -430,6 +458,11 @@ static const char *damage(size_t way, struct tweedstork_cache_entry *entry, uint
     case 13: entry->id[31] = 'a'; return "an id with a byte at its end";
     case 14: entry->fetched = (uint64_t)LATEST + 1; return "a fetch too late";
     case 15: entry->fetched = UINT64_MAX; return "the largest fetch";
+    /* at places that both texts have in common */
+    case 16: policy[13] = '2'; return "a text with another version";
+    case 17: policy[22] = 'N'; return "a text with a bad mode";
+    case 18: policy[entry->length - 3] = 'x'; return "a text with a bad max_age";
+    case 19: memcpy(policy, "mx: ..........", 14); return "a text with a bad mx";
     default: return NULL;
     }
 }
@@ -468,7 +501,7 @@ static void damaged_entries(void)
 
     while (damaged(ways))
         ways++;
-    expect("16 ways", ways == 16);
+    expect("20 ways", ways == 20);
 }
 
 /* The header's own struct, all zero from the start. */
@@ -495,6 +528,7 @@ int main(void)
     counted_in_bytes();
     order_of_refusals();
     empty_arguments();
+    policies_that_offend();
     domains();
     ids();
     longest_texts();

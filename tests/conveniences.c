@@ -193,10 +193,13 @@ static void numbers_are_written_high_first(void)
     expect("numbers are written high first, at their place", memcmp(list, wanted, sizeof list) == 0);
 }
 
-/* The answer table of document 01 (1 to 14, 20 to 27, 30 and 31, 40 to 44, 50 to 52, 60 to 67), and what document 02 adds to it. */
+/*
+ * The answer table of document 01 (1 to 14, 20 to 27, 30 and 31, 40 to 44, 50 to 52, 60 to 67) and what document 02 adds to it, with
+ * 53 to 57 in the place of 51.
+ */
 static void each_number_has_words(void)
 {
-    static const uint64_t ranges[][2] = {{1, 15}, {20, 27}, {30, 31}, {40, 44}, {50, 52}, {60, 67}, {70, 72}, {74, 74}, {80, 80}};
+    static const uint64_t ranges[][2] = {{1, 15}, {20, 27}, {30, 31}, {40, 44}, {50, 50}, {52, 57}, {60, 67}, {70, 72}, {74, 74}, {80, 80}};
     const char *none = tweedstork_answer_words(0);
     unsigned with_words = 0;
 
@@ -215,7 +218,7 @@ static void each_number_has_words(void)
             if (strcmp(words, tweedstork_answer_words(other)) == 0)
                 expect("no two numbers have the same words", 0);
     }
-    expect("46 numbers have words", with_words == 46);
+    expect("50 numbers have words", with_words == 50);
     expect("the largest number has none", strcmp(tweedstork_answer_words(UINT64_MAX), none) == 0);
 }
 

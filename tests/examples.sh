@@ -138,7 +138,30 @@ printf 'v=STSv1; id=%0300d;\n' 1 >"$files/long"
 expect "records: answer 42: refused: the TXT record that begins with 'v=STSv1;' is malformed" discover "$files/long" $domain/policy.txt
 : >"$files/none"
 expect "records: answer 40: refused: no TXT record begins with 'v=STSv1;'" discover "$files/none" $domain/policy.txt
-expect 'policy: answer 51: refused: the policy is malformed (perhaps it is empty, or has a zero byte or an empty line)' discover $domain/records.txt "$files/none"
+
+# Document 02, No. 2: what is wrong with a policy, the line's number and the line itself.
+wrong() { # wrong NUMBER LAST-LINE BODY, as printf takes it
+    local got
+    printf "$3" >"$files/wrong"
+    expect "$2" discover $domain/records.txt "$files/wrong"
+    got=$("$programs/discover" $domain/records.txt "$files/wrong") || true
+    if [[ $got != *$'\n'"policy: answer $1: refused: "* ]]; then
+        echo "discover: expected answer $1 for '$3', got $got"
+        failed=1
+    fi
+}
+expect 'policy: line 3, at byte 29: "mx: mail.example.com."' discover $domain/records.txt $domain/wrong-policy.txt
+wrong 53 'policy: line 1, at byte 0: ""' ''
+wrong 53 'policy: line 3, at byte 31: ""' 'version: STSv1\r\nmode: testing\r\n\n'
+wrong 53 'policy: line 3, at byte 31: "# "' 'version: STSv1\r\nmode: testing\r\n# \r\n'
+wrong 53 'policy: line 3, at byte 29: "mx : a.example"' 'version: STSv1\nmode: testing\nmx : a.example\nmax_age: 1\n'
+wrong 53 'policy: line 2, at byte 15: "x: \x01\x22\x5c\xff"' 'version: STSv1\nx: \001"\\\377\r\nmode: none\n'
+wrong 53 'policy: line 1, at byte 0: "version: STSv1\x0d"' 'version: STSv1\r'
+wrong 54 'policy: line 1, at byte 0: "version: STSv2"' 'version: STSv2\r\nmode: none\r\n'
+wrong 55 'policy: line 2, at byte 16: "mode: enforced"' 'version: STSv1\r\nmode: enforced\r\n'
+wrong 56 'policy: line 3, at byte 26: "max_age: 1 week"' 'version: STSv1\nmode: none\nmax_age: 1 week'
+wrong 57 'policy: line 2, at byte 15: "mx: *.*.example.com"' 'version: STSv1\nmx: *.*.example.com\nbroken\n'
+wrong 57 "policy: line 1, at byte 0: \"mx: $(printf '%096d' 0)\" and so on, 304 bytes" "mx: $(printf '%0300d' 0)\n"
 printf 'version: STSv1\nmode: none\n' >"$files/short"
 expect 'policy: answer 52: refused: the policy lacks version, mode, max_age or mx' discover $domain/records.txt "$files/short"
 expect "discover: cannot read $files/missing (at most 100000 bytes)" discover $domain/records.txt "$files/missing"

@@ -2,13 +2,13 @@
 -- literals. Assumes nothing.
 use Prim.Native.Nat.{ℕ, _-_, _*_, _<_}
 use mathlib.Core.Path.{_≡_, refl, sym, ap, _∙_}
-use mathlib.Core.Bool.{Bool, true, false, cond, not, _&&_, _||_}
+use mathlib.Core.Bool.{Bool, true, false, cond, not, _&&_, _||_, and-false}
 use mathlib.Core.List.{List, _++_}
-use mathlib.Core.Logic.{_⊎_, inl, inr}
 use mathlib.Core.Option.{Option, none, some}
+use native.Mathlib.Omega.{arith}
 use lib.Dec.{eqb, leb, ltb}
 use lib.ListN.{length, getD}
-use borrow.Author.Tests.{leb-true, leb-false, le-leb, ltb-true, lt-ltb, le-ltb}
+use borrow.Author.Tests.{ne-eqb, leb-true, leb-false, le-leb, ltb-true, lt-ltb, le-ltb}
 use Rattle.lists.specs.Bytes.{any}
 use Rattle.lists.specs.Equal.{sameText}
 use Rattle.lists.specs.Place.{firstPlace}
@@ -18,9 +18,8 @@ use Rattle.lists.proofs.Place.{first-any}
 use Rattle.names.specs.Name.{isName}
 use Rattle.names.proofs.Cover.{name-short, name-same}
 use Rattle.clock.specs.Clock.{isReading, isLive}
-use Rattle.policies.specs.Policy.{policyAnswer, refused}
-use Rattle.policies.specs.declared.PolicyAnswer.{PolicyAnswer}
-use Rattle.policies.proofs.Sanity.{answer-table}
+use Rattle.policies.specs.Policy.{policyAnswer}
+use Rattle.policies.proofs.Sanity.{isPolicyRefusal, refusal-range, policy-number}
 use Rattle.txt.specs.Paper.{isId}
 use Rattle.writing.specs.Answer.{answerUnless}
 use Rattle.cache.specs.declared.CacheEntry.{CacheEntry}
@@ -34,15 +33,9 @@ use Rattle.cache.proofs.Stored.{held-length, sizes-are, Good}
 use Rattle.cache.proofs.StoredFound.{place-own}
 use Rattle.cache.proofs.Steps.{Sized, handed-text, live-held, stored-sized, stored-found, lookup-shows}
 
--- ---- a policy's number is 7, 50, 51 or 52
-policy-not : (p : List ℕ) (n : ℕ) → eqb 7 n ≡ false → eqb 50 n ≡ false → eqb 51 n ≡ false → eqb 52 n ≡ false → eqb (policyAnswer p .number) n ≡ false
-policy-not p n a b c d = go (answer-table p)
-  where
-    go : (policyAnswer p .number ≡ 7) ⊎ (policyAnswer p ≡ refused 50) ⊎ (policyAnswer p ≡ refused 51) ⊎ (policyAnswer p ≡ refused 52) → eqb (policyAnswer p .number) n ≡ false
-    go (inl e) = ap (λ (k : ℕ). eqb k n) e ∙ a
-    go (inr (inl e)) = ap (λ (r : PolicyAnswer). eqb (r .number) n) e ∙ b
-    go (inr (inr (inl e))) = ap (λ (r : PolicyAnswer). eqb (r .number) n) e ∙ c
-    go (inr (inr (inr e))) = ap (λ (r : PolicyAnswer). eqb (r .number) n) e ∙ d
+-- ---- a policy's number is 7, or a refusal 50 or 52 to 57
+policy-not : (p : List ℕ) (n : ℕ) → (eqb n 7 || isPolicyRefusal n) ≡ false → eqb (policyAnswer p .number) n ≡ false
+policy-not p n h = ne-eqb (policyAnswer p .number) n (λ e. apart (sym h ∙ (rw e at (policy-number p))))
 
 -- ---- an entry counts as empty exactly where its length is over 1,024, or its domain or id (less its final zeros), its fetch reading or its text wouldn't be accepted
 pub empty-exactly : (e : CacheEntry) (text : List ℕ)
@@ -193,7 +186,7 @@ module _ (clock : ℕ) (d i p : List ℕ) (t : List CacheEntry) (x : List ℕ) w
   abbrev number : ℕ
   number = storeAnswer clock d i p t x .number
 
-  -- the number, in the order 74, 62, 60, 80, 50 to 52, 71, 70; else 15
+  -- the number, in the order 74, 62, 60, 80, 50, 53 to 57, 52, 71, 70; else 15
   pub store-number : number ≡ inOrder sizes (isReading clock) (isName d) (isId i) (isPolicy p) short taken (policyAnswer p .number)
   unfolding storeAnswer answerUnless storeRefusal storeChecks argumentChecks refusalOf sizesFit
   store-number =
@@ -213,34 +206,37 @@ module _ (clock : ℕ) (d i p : List ℕ) (t : List CacheEntry) (x : List ℕ) w
       go true true true true true true true = refl
 
   pub exactly-74 : eqb number 74 ≡ not sizes
-  exactly-74 = ap (λ (k : ℕ). eqb k 74) store-number ∙ at-74 sizes (isReading clock) (isName d) (isId i) (isPolicy p) short taken (policyAnswer p .number) (policy-not p 74 refl refl refl refl)
+  exactly-74 = ap (λ (k : ℕ). eqb k 74) store-number ∙ at-74 sizes (isReading clock) (isName d) (isId i) (isPolicy p) short taken (policyAnswer p .number) (policy-not p 74 refl)
 
   pub exactly-62 : eqb number 62 ≡ (sizes && not (isReading clock))
-  exactly-62 = ap (λ (k : ℕ). eqb k 62) store-number ∙ at-62 sizes (isReading clock) (isName d) (isId i) (isPolicy p) short taken (policyAnswer p .number) (policy-not p 62 refl refl refl refl)
+  exactly-62 = ap (λ (k : ℕ). eqb k 62) store-number ∙ at-62 sizes (isReading clock) (isName d) (isId i) (isPolicy p) short taken (policyAnswer p .number) (policy-not p 62 refl)
 
   pub exactly-60 : eqb number 60 ≡ (sizes && ((isReading clock) && not (isName d)))
-  exactly-60 = ap (λ (k : ℕ). eqb k 60) store-number ∙ at-60 sizes (isReading clock) (isName d) (isId i) (isPolicy p) short taken (policyAnswer p .number) (policy-not p 60 refl refl refl refl)
+  exactly-60 = ap (λ (k : ℕ). eqb k 60) store-number ∙ at-60 sizes (isReading clock) (isName d) (isId i) (isPolicy p) short taken (policyAnswer p .number) (policy-not p 60 refl)
 
   pub exactly-80 : eqb number 80 ≡ (sizes && ((isReading clock) && ((isName d) && not (isId i))))
-  exactly-80 = ap (λ (k : ℕ). eqb k 80) store-number ∙ at-80 sizes (isReading clock) (isName d) (isId i) (isPolicy p) short taken (policyAnswer p .number) (policy-not p 80 refl refl refl refl)
+  exactly-80 = ap (λ (k : ℕ). eqb k 80) store-number ∙ at-80 sizes (isReading clock) (isName d) (isId i) (isPolicy p) short taken (policyAnswer p .number) (policy-not p 80 refl)
 
   pub exactly-71 : eqb number 71 ≡ (sizes && ((isReading clock) && ((isName d) && ((isId i) && ((isPolicy p) && not short)))))
-  exactly-71 = ap (λ (k : ℕ). eqb k 71) store-number ∙ at-71 sizes (isReading clock) (isName d) (isId i) (isPolicy p) short taken (policyAnswer p .number) (policy-not p 71 refl refl refl refl)
+  exactly-71 = ap (λ (k : ℕ). eqb k 71) store-number ∙ at-71 sizes (isReading clock) (isName d) (isId i) (isPolicy p) short taken (policyAnswer p .number) (policy-not p 71 refl)
 
   pub exactly-70 : eqb number 70 ≡ (sizes && ((isReading clock) && ((isName d) && ((isId i) && ((isPolicy p) && (short && not taken))))))
-  exactly-70 = ap (λ (k : ℕ). eqb k 70) store-number ∙ at-70 sizes (isReading clock) (isName d) (isId i) (isPolicy p) short taken (policyAnswer p .number) (policy-not p 70 refl refl refl refl)
+  exactly-70 = ap (λ (k : ℕ). eqb k 70) store-number ∙ at-70 sizes (isReading clock) (isName d) (isId i) (isPolicy p) short taken (policyAnswer p .number) (policy-not p 70 refl)
 
   pub exactly-15 : eqb number 15 ≡ (sizes && ((isReading clock) && ((isName d) && ((isId i) && ((isPolicy p) && (short && taken))))))
-  exactly-15 = ap (λ (k : ℕ). eqb k 15) store-number ∙ at-15 sizes (isReading clock) (isName d) (isId i) (isPolicy p) short taken (policyAnswer p .number) (policy-not p 15 refl refl refl refl)
+  exactly-15 = ap (λ (k : ℕ). eqb k 15) store-number ∙ at-15 sizes (isReading clock) (isName d) (isId i) (isPolicy p) short taken (policyAnswer p .number) (policy-not p 15 refl)
 
-  pub exactly-50 : eqb number 50 ≡ (sizes && ((isReading clock) && ((isName d) && ((isId i) && (not (isPolicy p) && eqb (policyAnswer p .number) 50)))))
-  exactly-50 = ap (λ (k : ℕ). eqb k 50) store-number ∙ at-policy 50 refl refl refl refl refl refl refl sizes (isReading clock) (isName d) (isId i) (isPolicy p) short taken (policyAnswer p .number)
+  -- 50 or 52 to 57: a policy that is not accepted, by its own number
+  pub exactly-policy : (n : ℕ) → isPolicyRefusal n ≡ true → eqb number n ≡ (sizes && ((isReading clock) && ((isName d) && ((isId i) && (not (isPolicy p) && eqb (policyAnswer p .number) n)))))
+  exactly-policy n h =
+      let u = refusal-range n h .1 in
+      let l = refusal-range n h .0 in
+      ap (λ (k : ℕ). eqb k n) store-number
+      ∙ at-policy n (ne-eqb 74 n (λ e. omega (arith, u))) (ne-eqb 62 n (λ e. omega (arith, u))) (ne-eqb 60 n (λ e. omega (arith, u))) (ne-eqb 80 n (λ e. omega (arith, u))) (ne-eqb 71 n (λ e. omega (arith, u))) (ne-eqb 70 n (λ e. omega (arith, u))) (ne-eqb 15 n (λ e. omega (arith, l))) sizes (isReading clock) (isName d) (isId i) (isPolicy p) short taken (policyAnswer p .number)
 
-  pub exactly-51 : eqb number 51 ≡ (sizes && ((isReading clock) && ((isName d) && ((isId i) && (not (isPolicy p) && eqb (policyAnswer p .number) 51)))))
-  exactly-51 = ap (λ (k : ℕ). eqb k 51) store-number ∙ at-policy 51 refl refl refl refl refl refl refl sizes (isReading clock) (isName d) (isId i) (isPolicy p) short taken (policyAnswer p .number)
-
-  pub exactly-52 : eqb number 52 ≡ (sizes && ((isReading clock) && ((isName d) && ((isId i) && (not (isPolicy p) && eqb (policyAnswer p .number) 52)))))
-  exactly-52 = ap (λ (k : ℕ). eqb k 52) store-number ∙ at-policy 52 refl refl refl refl refl refl refl sizes (isReading clock) (isName d) (isId i) (isPolicy p) short taken (policyAnswer p .number)
+  -- and never 51
+  pub never-51 : eqb number 51 ≡ false
+  never-51 = ap (λ (k : ℕ). eqb k 51) store-number ∙ at-policy 51 refl refl refl refl refl refl refl sizes (isReading clock) (isName d) (isId i) (isPolicy p) short taken (policyAnswer p .number) ∙ rw (policy-not p 51 refl) (simp and-false)
 
   -- a store has no output
   pub store-length : storeAnswer clock d i p t x .length ≡ 0

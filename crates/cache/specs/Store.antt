@@ -1,7 +1,7 @@
 -- Document 02, No. 1: storing. "Storing takes the call's clock as fetch reading and replaces the domain's own entry (of several the lowest counts, in lookups too), else
 -- takes an empty one, else one that is stale by then, lowest position first. New refusals ..: 70 exactly when no such entry exists, 71 when the text is over 1,024 bytes,
 -- 74 when table or buffer has another size, 80 when the id isn't 1 to 32 letters or digits. Order: 74, 62, 60, 80, 50 to 52, 71, 70; a refusal changes nothing, a store
--- only its entry and the text's bytes."
+-- only its entry and the text's bytes." Since No. 2 "50 to 52" is 50, then 53 to 57, then 52.
 use Prim.Native.Nat.{ℕ, _*_}
 use mathlib.Core.Bool.{Bool, true, false, cond, not, _&&_}
 use mathlib.Core.List.{List, [], _∷_, _++_}
@@ -63,7 +63,7 @@ sizesCheck n m = record { passes = sizesFit n m; refusal = 74 }
 abbrev pub clockAndName : ℕ → List ℕ → List Check
 clockAndName clock d = record { passes = isReading clock; refusal = 62 } ∷ record { passes = isName d; refusal = 60 } ∷ []
 
--- what a store checks of clock, domain, id and policy: 62, 60, 80, 50 to 52, 71
+-- what a store checks of clock, domain, id and policy: 62, 60, 80, 50, 53 to 57, 52, 71
 unfoldable pub argumentChecks : ℕ → (d i p : List ℕ) → List Check
 argumentChecks clock d i p =
     clockAndName clock d

@@ -7,9 +7,9 @@ use mathlib.Core.Option.{some}
 use native.Mathlib.Omega.{arith}
 use lib.Dec.{T, eqb, leb}
 use lib.ListN.{length, getD, take, drop}
-use borrow.Author.Tests.{le-leb, leb-true, eq-eqb, eqb-true}
+use borrow.Author.Tests.{le-leb, eq-eqb, eqb-true}
 use Rattle.lists.specs.Check.{Check}
-use Rattle.lists.specs.Bytes.{all, within, isBytes}
+use Rattle.lists.specs.Bytes.{all, isBytes}
 use Rattle.lists.proofs.Bools.{apart, and-left, and-right, and-intro, holds, by-true, or-right, neither-right, never}
 use Rattle.lists.proofs.All.{all-take, all-drop, all-at}
 use Rattle.lists.proofs.Laws.{part-length}
@@ -17,7 +17,8 @@ use Rattle.numbers.specs.Numbers.{numbers}
 use Rattle.numbers.specs.Pieces.{cut, sumsTo}
 use Rattle.numbers.proofs.Pieces.{cut-count, cut-all, numbered-all}
 use Rattle.names.specs.Name.{isName}
-use Rattle.policies.specs.Policy.{Reading, tooLong, malformed, incomplete, policy, readBody, answerTo, policyAnswer}
+use Rattle.policies.specs.Policy.{policyAnswer}
+use Rattle.policies.proofs.Sanity.{isPolicyRefusal, refusal-range, policy-number}
 use Rattle.tlsa.specs.declared.Lookup.{Lookup}
 use Rattle.tlsa.specs.declared.Lookup.the-variants as L
 use Rattle.tlsa.specs.Answer.{answerOf, answerFits, setFits, recordsOf}
@@ -48,22 +49,12 @@ pub walks : (a : Arguments) → Passes a → hostAnswer a ≡ walked (factsOf a)
 unfolding hostAnswer checks
 walks a p = rw (p .codes, p .clocks, p .next-hop, p .names, p .body, p .answers, p .facts)
 
--- a policy is accepted, or refused with 50 to 52
-policy-number : (s : List ℕ) → (eqb (policyAnswer s .number) 7 || within 50 52 (policyAnswer s .number)) ≡ true
-unfolding policyAnswer answerTo
-policy-number s = go (readBody s)
-  where
-    go : (r : Reading) → (eqb (answerTo r .number) 7 || within 50 52 (answerTo r .number)) ≡ true
-    go tooLong = refl
-    go (malformed fault) = refl
-    go incomplete = refl
-    go (policy p) = refl
-
-pub policy-refusal : (a : Arguments) → policyFits a ≡ false → within 50 52 (policyAnswer (a .body) .number) ≡ true
+-- a policy that is not accepted is refused with 50, or 52 to 57
+pub policy-refusal : (a : Arguments) → policyFits a ≡ false → isPolicyRefusal (policyAnswer (a .body) .number) ≡ true
 unfolding policyFits
 policy-refusal a h = go (eqb (policyAnswer (a .body) .number) 7) (neither-right (not (eqb (a .numbers .«policy_given») 1)) (eqb (policyAnswer (a .body) .number) 7) h) (policy-number (a .body))
   where
-    go : (x : Bool) → x ≡ false → (x || within 50 52 (policyAnswer (a .body) .number)) ≡ true → within 50 52 (policyAnswer (a .body) .number) ≡ true
+    go : (x : Bool) → x ≡ false → (x || isPolicyRefusal (policyAnswer (a .body) .number)) ≡ true → isPolicyRefusal (policyAnswer (a .body) .number) ≡ true
     go true e k = apart (sym e)
     go false e k = k
 
@@ -81,7 +72,7 @@ refused-or p (c ∷ cs) r P h f g = go (c .passes) refl (refused-or p cs r P (an
     go true e ih = ih (λ k. g (and-intro (c .passes) (all (λ (c : Check). c .passes) cs) e k))
     go false e ih = f (c .refusal) (sym (ap (λ (x : Bool). x || p (c .refusal)) e) ∙ and-left (refusesBy p c) (all (refusesBy p) cs) h)
 
-module _ (p : ℕ → Bool) (fixed : (p 67 && p 62 && p 60 && p 61 && p 64 && p 65) ≡ true) (fifty : (n : ℕ) → within 50 52 n ≡ true → p n ≡ true) (a : Arguments) where
+module _ (p : ℕ → Bool) (fixed : (p 67 && p 62 && p 60 && p 61 && p 64 && p 65) ≡ true) (fifty : (n : ℕ) → isPolicyRefusal n ≡ true → p n ≡ true) (a : Arguments) where
   policy-by : refusesBy p (record { passes = policyFits a; refusal = policyAnswer (a .body) .number }) ≡ true
   policy-by = go (policyFits a) refl
     where
@@ -89,7 +80,7 @@ module _ (p : ℕ → Bool) (fixed : (p 67 && p 62 && p 60 && p 61 && p 64 && p 
       go true e = refl
       go false e = fifty (policyAnswer (a .body) .number) (policy-refusal a e)
 
-  -- a test of 67, 62, 60, 61, 50 to 52, 64 and 65 is a test of every refusal of the checks
+  -- a test of 67, 62, 60, 61, 50, 52 to 57, 64 and 65 is a test of every refusal of the checks
   pub refusals : all (refusesBy p) (checks a) ≡ true
   unfolding checks all
   refusals =
@@ -126,13 +117,13 @@ each-passes a h =
     }
 
 -- any test of refusals and of the walk's answer
-pub by-answer-of : (p : ℕ → Bool) → (p 67 && p 62 && p 60 && p 61 && p 64 && p 65) ≡ true → ((n : ℕ) → within 50 52 n ≡ true → p n ≡ true)
+pub by-answer-of : (p : ℕ → Bool) → (p 67 && p 62 && p 60 && p 61 && p 64 && p 65) ≡ true → ((n : ℕ) → isPolicyRefusal n ≡ true → p n ≡ true)
     → (a : Arguments) (P : HostAnswer → Type 0) → ((n : ℕ) → p n ≡ true → P (refused n)) → (Passes a → P (walked (factsOf a))) → P (hostAnswer a)
 unfolding hostAnswer
 by-answer-of p fixed fifty a P f g = refused-or p (checks a) (walked (factsOf a)) P (refusals p fixed fifty a) f (λ k. g (each-passes a k))
 
-fifty-refuses : (n : ℕ) → within 50 52 n ≡ true → isRefusal n ≡ true
-fifty-refuses n h = le-leb 40 n (omega (arith, leb-true 50 n (and-left (leb 50 n) (leb n 52) h)))
+fifty-refuses : (n : ℕ) → isPolicyRefusal n ≡ true → isRefusal n ≡ true
+fifty-refuses n h = le-leb 40 n (omega (arith, refusal-range n h .0))
 
 -- what is not refused passes every check
 pub accepted-passes : (a : Arguments) → (T (isRefusal (hostAnswer a .number)) → ⊥) → Passes a

@@ -34,7 +34,7 @@ enforce-is M.Testing = refl
 enforce-is M.None = refl
 
 pub needs-is : (a : Arguments) → policyNeeds (givenPolicy (a .numbers .«policy_given») (a .body) (a .host) .answer) (a .numbers .fetched) (a .numbers .clock) ≡ needsMtaSts (baseOf a)
-unfolding policyNeeds givenPolicy policyFor policyAnswer answerTo needsMtaSts baseOf
+unfolding policyNeeds givenPolicy policyFor policyAnswer answerTo P.faultAnswer needsMtaSts baseOf
 needs-is a = go (eqb (a .numbers .«policy_given») 1) (readBody (a .body)) (policyFor (a .body) (a .host) .listed)
   where
     go : (t : Bool) (r : Reading) (l : Bool) → (eqb (cond t (record { answer = answerTo r; listed = l }) noPolicy .answer .mode) 1 && isLive (a .numbers .fetched) (cond t (record { answer = answerTo r; listed = l }) noPolicy .answer .lifetime) (a .numbers .clock)) ≡ isEnforced (a .numbers .clock) (cond t (held (a .numbers .fetched) r) none)

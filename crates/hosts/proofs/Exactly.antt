@@ -4,13 +4,13 @@ use mathlib.Core.Path.{_≡_, refl, sym, _∙_, ap}
 use mathlib.Core.Bool.{Bool, true, false, not, cond, _&&_, and-true, and-false}
 use mathlib.Core.List.{List, [], _∷_}
 use native.Mathlib.Omega.{arith}
-use lib.Dec.{eqb, leb}
-use borrow.Author.Tests.{le-leb, leb-true, ne-eqb, eqb-true}
+use lib.Dec.{eqb}
+use borrow.Author.Tests.{le-leb, ne-eqb, eqb-true}
 use Rattle.lists.specs.Check.{Check}
-use Rattle.lists.specs.Bytes.{within}
-use Rattle.lists.proofs.Bools.{apart, and-left, and-right}
+use Rattle.lists.proofs.Bools.{apart}
 use Rattle.names.specs.Name.{isName}
 use Rattle.policies.specs.Policy.{policyAnswer}
+use Rattle.policies.proofs.Sanity.{isPolicyRefusal, refusal-range}
 use Rattle.verdicts.specs.Verdicts.{isVerdict}
 use Rattle.hosts.specs.declared.HostAnswer.{HostAnswer}
 use Rattle.hosts.specs.Facts.{Facts, later}
@@ -105,11 +105,11 @@ module _ (a : Arguments) where
   number-from n h = number-is n (checks a) (walked (factsOf a)) ∙ ap (firstFails n (checks a)) (walk-refuses n h (factsOf a))
 
   -- the refusal of a policy is no other
-  other : (n : ℕ) → within 50 52 n ≡ false → policyFits a ≡ false → eqb policyNumber n ≡ false
+  other : (n : ℕ) → isPolicyRefusal n ≡ false → policyFits a ≡ false → eqb policyNumber n ≡ false
   other n h e = go (eqb policyNumber n) refl
     where
       go : (x : Bool) → eqb policyNumber n ≡ x → x ≡ false
-      go true q = apart (sym h ∙ (ap (within 50 52) (sym (eqb-true policyNumber n q)) ∙ policy-refusal a e))
+      go true q = apart (sym h ∙ (ap isPolicyRefusal (sym (eqb-true policyNumber n q)) ∙ policy-refusal a e))
       go false q = refl
 
   -- nothing from a check on has another refusal
@@ -119,7 +119,7 @@ module _ (a : Arguments) where
   no-64 : (n : ℕ) → eqb 66 n ≡ false → eqb 65 n ≡ false → eqb 64 n ≡ false → from-64 n ≡ false
   no-64 n p q r = none (answersFit a) (from-65 n) (eqb 64 n) (no-65 n p q) (λ e. r)
 
-  no-50 : (n : ℕ) → eqb 66 n ≡ false → eqb 65 n ≡ false → eqb 64 n ≡ false → within 50 52 n ≡ false → from-50 n ≡ false
+  no-50 : (n : ℕ) → eqb 66 n ≡ false → eqb 65 n ≡ false → eqb 64 n ≡ false → isPolicyRefusal n ≡ false → from-50 n ≡ false
   no-50 n p q r s = none (policyFits a) (from-64 n) (eqb policyNumber n) (no-64 n p q r) (other n s)
 
   no-61 : (n : ℕ) → from-50 n ≡ false → eqb 61 n ≡ false → from-61 n ≡ false
@@ -147,7 +147,7 @@ module _ (a : Arguments) where
   answers-then : (u v : Bool) → u ≡ v → cond (answersFit a) u false ≡ (answersFit a && v)
   answers-then u v e = step (answersFit a) u ∙ ap (λ (x : Bool). answersFit a && x) e
 
-  policy-then : (n : ℕ) (u v : Bool) → within 50 52 n ≡ false → u ≡ v → cond (policyFits a) u (eqb policyNumber n) ≡ (policyFits a && v)
+  policy-then : (n : ℕ) (u v : Bool) → isPolicyRefusal n ≡ false → u ≡ v → cond (policyFits a) u (eqb policyNumber n) ≡ (policyFits a && v)
   policy-then n u v h e = go (policyFits a) refl
     where
       go : (x : Bool) → policyFits a ≡ x → cond x u (eqb policyNumber n) ≡ (x && v)
@@ -168,11 +168,11 @@ module _ (a : Arguments) where
   pub exactly-61 : eqb (hostAnswer a .number) 61 ≡ (codesFit a && (clocksFit a && (isName (a .nextHop) && not (hostNamesFit a))))
   exactly-61 = number-from 61 refl ∙ codes-then (from-62 61) _ (clocks-then (from-60 61) _ (next-hop-then (from-61 61) _ (here (hostNamesFit a) (from-50 61) (no-50 61 refl refl refl refl))))
 
-  -- 50 to 52: a policy that is not accepted, by its own number
-  pub exactly-policy : (n : ℕ) → within 50 52 n ≡ true → eqb (hostAnswer a .number) n ≡ (codesFit a && (clocksFit a && (isName (a .nextHop) && (hostNamesFit a && (not (policyFits a) && eqb (policyAnswer (a .body) .number) n)))))
+  -- 50, 52 to 57: a policy that is not accepted, by its own number
+  pub exactly-policy : (n : ℕ) → isPolicyRefusal n ≡ true → eqb (hostAnswer a .number) n ≡ (codesFit a && (clocksFit a && (isName (a .nextHop) && (hostNamesFit a && (not (policyFits a) && eqb (policyAnswer (a .body) .number) n)))))
   exactly-policy n h =
-      let l = leb-true 50 n (and-left (leb 50 n) (leb n 52) h) in
-      let u = leb-true n 52 (and-right (leb 50 n) (leb n 52) h) in
+      let l = refusal-range n h .0 in
+      let u = refusal-range n h .1 in
       let r : isRefusal n ≡ true = go l in
       number-from n r ∙ rw (ne-eqb 67 n (λ e. omega (arith, u, e)), ne-eqb 62 n (λ e. omega (arith, u, e)), ne-eqb 60 n (λ e. omega (arith, u, e)), ne-eqb 61 n (λ e. omega (arith, u, e)))
       (codes-then _ _ (clocks-then _ _ (next-hop-then _ _ (host-then _ _ (choice (policyFits a) (from-64 n) (eqb policyNumber n) (no-64 n (ne-eqb 66 n (λ e. omega (arith, u, e))) (ne-eqb 65 n (λ e. omega (arith, u, e))) (ne-eqb 64 n (λ e. omega (arith, u, e)))))))))

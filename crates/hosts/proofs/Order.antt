@@ -32,7 +32,7 @@ module _ (a : Arguments) where
         refused-61 e = rw (codes, clocks, next-hop, e)
 
         module _ (host : hostNamesFit a ≡ true) where
-          -- 50 to 52: the refusal of the policy
+          -- 50, 52 to 57: the refusal of the policy
           pub refused-policy : policyFits a ≡ false → hostAnswer a ≡ refused (policyAnswer (a .body) .number)
           unfolding hostAnswer checks
           refused-policy e = rw (codes, clocks, next-hop, host, e)

@@ -8,6 +8,7 @@ use borrow.Author.Tests.{leb-true, eqb-true}
 use Rattle.lists.specs.Bytes.{within}
 use Rattle.lists.proofs.Bools.{apart, and-right, holds, by-cond, or-left, or-right, or-elim}
 use Rattle.verdicts.specs.Verdicts.{isDelivery, isNextHost, isVerdict}
+use Rattle.policies.proofs.Sanity.{isPolicyRefusal}
 use Rattle.hosts.specs.declared.HostAnswer.{HostAnswer}
 use Rattle.hosts.specs.Facts.{Facts, later}
 use Rattle.hosts.specs.Tree.{Outcome, final, missing, walk, answersRead}
@@ -19,9 +20,9 @@ use Rattle.hosts.proofs.Trees.{Comes, comes}
 use Rattle.hosts.proofs.Shape.{isQuestion, verdict-no-refusal, question-no-refusal, isEarly, each-rules, at-most-two, unread}
 use Rattle.hosts.proofs.Accepted.{by-answer-of}
 
--- the answers of document 01's table that this call gives: 1 to 5, 10 to 14, 20 to 27, 50 to 52, 60 to 62, 64 to 67
+-- the answers of document 01's table that this call gives: 1 to 5, 10 to 14, 20 to 27, 50, 52 to 57, 60 to 62, 64 to 67
 abbrev pub isAnswer : ℕ → Bool
-isAnswer n = isVerdict n || (within 10 14 n || (within 50 52 n || (within 60 62 n || within 64 67 n)))
+isAnswer n = isVerdict n || (within 10 14 n || (isPolicyRefusal n || (within 60 62 n || within 64 67 n)))
 
 -- what is said of the walk's answer, by what the walk comes to: a verdict, 66, or a question
 by-walk : (P : HostAnswer → Type 0) (g : Facts)
@@ -35,16 +36,16 @@ by-walk P g f r q = go (walk (rules (g .base)) g) refl (comes isVerdict isQuesti
     go (final v) e h = f v h e
     go (missing m) e h = by-cond P (later (m .fact) g) (λ l. r) (λ l. q (m .number) h)
 
--- what is said of every answer: of a refusal 50 to 52, 60 to 62, 64 to 67, of a verdict and of a question
+-- what is said of every answer: of a refusal 50, 52 to 57, 60 to 62, 64 to 67, of a verdict and of a question
 abbrev isChecked : ℕ → Bool
-isChecked n = within 50 52 n || (within 60 62 n || within 64 67 n)
+isChecked n = isPolicyRefusal n || (within 60 62 n || within 64 67 n)
 
 by-kind : (P : HostAnswer → Type 0) (a : Arguments)
     → ((n : ℕ) → isChecked n ≡ true → P (refused n))
     → ((v : ℕ) → isVerdict v ≡ true → walk (rules (factsOf a .base)) (factsOf a) ≡ final v → P (record { number = v; «tlsa_questions» = answersRead (rules (factsOf a .base)) (factsOf a) }))
     → ((n : ℕ) → isQuestion n ≡ true → P (record { number = n; «tlsa_questions» = answersRead (rules (factsOf a .base)) (factsOf a) }))
     → P (hostAnswer a)
-by-kind P a r v q = by-answer-of isChecked refl (λ n h. or-left (within 50 52 n) (within 60 62 n || within 64 67 n) h) a P r (λ p. by-walk P (factsOf a) v (r 66 refl) q)
+by-kind P a r v q = by-answer-of isChecked refl (λ n h. or-left (isPolicyRefusal n) (within 60 62 n || within 64 67 n) h) a P r (λ p. by-walk P (factsOf a) v (r 66 refl) q)
 
 -- every answer is one of the table
 pub in-table : (a : Arguments) → isAnswer (hostAnswer a .number) ≡ true
@@ -57,6 +58,11 @@ in-table a = by-kind (λ (r : HostAnswer). isAnswer (r .number) ≡ true) a
 pub never-zero : (a : Arguments) → hostAnswer a .number ≡ 0 → ⊥
 unfolding isDelivery isNextHost
 never-zero a e = apart (sym (ap isAnswer e) ∙ in-table a)
+
+-- and none is 51
+pub never-51 : (a : Arguments) → hostAnswer a .number ≡ 51 → ⊥
+unfolding isDelivery isNextHost
+never-51 a e = apart (sym (ap isAnswer e) ∙ in-table a)
 
 -- a question is none of 20, 21 and 23
 question-not-early : (n : ℕ) → isQuestion n ≡ true → isEarly n ≡ true → ⊥

@@ -56,7 +56,7 @@ hostNamesFit a =
     && hostFits (originOf (a .numbers .origin)) (a .host) (a .nextHop)
     && ifSupplied (isAlias (addressOf (a .numbers .address))) (isName (a .expanded))
 
--- 50 to 52: a policy is accepted
+-- 50, 53 to 57, 52: a policy is accepted
 unfoldable pub policyFits : Arguments → Bool
 policyFits a = ifSupplied (eqb (a .numbers .«policy_given») 1) (eqb (policyAnswer (a .body) .number) 7)
 
@@ -72,7 +72,7 @@ certificatesFit a =
     ifSupplied (eqb (a .numbers .«certificates_given») 1)
     (factsFit (a .certificates) (a .certificateLengths) (a .keyPlaces) (a .digests) (a .paths) (a .dnsIds) (a .dnsIdLengths) (eqb (a .numbers .«common_name_given») 1) (a .commonName))
 
--- the checks, in the order 67, 62, 60, 61, 50 to 52, 64, 65
+-- the checks, in the order 67, 62, 60, 61, 50, 53 to 57, 52, 64, 65
 unfoldable pub checks : Arguments → List Check
 checks a =
     record { passes = codesFit a; refusal = 67 }

@@ -82,7 +82,7 @@ lastRefusal a = cond (answersFit a) (cond (certificatesFit a) F.None (F.Number 6
 
 -- what stands for a policy that is not given: it is no refusal, and needs nothing
 abbrev pub noPolicy : PolicyFor
-noPolicy = record { answer = record { number = 7; mode = 3; lifetime = 0; «mx_count» = 0 }; listed = false }
+noPolicy = record { answer = record { number = 7; mode = 3; lifetime = 0; «mx_count» = 0; line = 0; offset = 0 }; listed = false }
 
 -- the answer to the policy, and whether it lists the host, where one is given
 unfoldable pub givenPolicy : ℕ → (body host : List ℕ) → PolicyFor

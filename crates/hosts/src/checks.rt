@@ -1,4 +1,4 @@
-// The argument checks: 67, 62, 60, 61, then 64 and 65. The policy's, 50 to 52, stands between them, where its body is read.
+// The argument checks: 67, 62, 60, 61, then 64 and 65. The policy's (50, 53 to 57, 52) stand between them, where its body is read.
 ghost use mathlib.Core.Path.{_≡_};
 ghost use mathlib.Core.Bool.{_&&_};
 ghost use mathlib.Core.List.{[]};

@@ -57,6 +57,8 @@ pub fn given_policy(given: u64, body: &[u8], host: &[u8]) -> PolicyFor
             mode: policies::NONE,
             lifetime: 0,
             mx_count: 0,
+            line: 0,
+            offset: 0,
         },
         listed: false,
     }

@@ -4,10 +4,11 @@ use mathlib.Core.Path.{_≡_, refl, sym, _∙_}
 use mathlib.Core.Bool.{Bool, true, false, cond, _||_, and-false}
 use mathlib.Core.List.{List}
 use mathlib.Core.Option.{Option, none, some}
+use native.Mathlib.Omega.{arith}
 use lib.Dec.{eqb, ltb}
 use lib.ListN.{length}
 use borrow.Author.Needs.{needs}
-use borrow.Author.Tests.{not-true, not-false, lt-ltb, le-ltb}
+use borrow.Author.Tests.{not-true, not-false, ne-eqb, lt-ltb, le-ltb}
 use Rattle.lists.specs.Text.{text}
 use Rattle.lists.proofs.Bools.{never}
 use Rattle.clock.specs.declared.Lifetime.{Lifetime}
@@ -15,6 +16,8 @@ use Rattle.clock.specs.Clock.{lifetimeOf}
 use Rattle.names.specs.Name.{someMatches}
 use Rattle.policies.specs.declared.Mode.{Mode}
 use Rattle.policies.specs.declared.Mode.the-variants as M
+use Rattle.policies.specs.declared.Cause.{Cause}
+use Rattle.policies.specs.declared.Cause.the-variants as C
 use Rattle.policies.specs.declared.Fault.{Fault}
 use Rattle.policies.specs.declared.MaybeAge.{MaybeAge}
 use Rattle.policies.specs.declared.PolicyAnswer.{PolicyAnswer}
@@ -23,7 +26,7 @@ use Rattle.policies.specs.declared.Seen.{Seen}
 use Rattle.policies.specs.declared.Checked.{Checked}
 use Rattle.policies.specs.Lines.{lines}
 use Rattle.policies.specs.Fields.{anyNamed, patterns}
-use Rattle.policies.specs.Policy.{incomplete, policy, bodyFault, firstMode, firstAge, hasPatterns, complete, completed, judged, readBody, modeNumber, refused, answerTo, policyAnswer, patternsOf, policyFor}
+use Rattle.policies.specs.Policy.{incomplete, policy, bodyFault, firstMode, firstAge, hasPatterns, complete, completed, judged, readBody, modeNumber, causeNumber, refusedAt, refused, faultAnswer, answerTo, policyAnswer, patternsOf, policyFor}
 use Rattle.policies.specs.Reader.{heldMode, heldAge, holdsMode, modeHeld, seenIn, outcome, checked, accepted, enough, answerIn, answerWith, seenAnswer, forHost}
 use Rattle.policies.proofs.Same.{none-held, mode-held}
 
@@ -56,10 +59,38 @@ module _ (mode : Mode) where
 
 pub ruleset number-laws = (number-enforce, number-testing, number-none, needs)
 
+-- `cause_number` and `fault_refusal`: by each cause
+module _ (cause : Cause) where
+  pub number-form : cause ≡ C.Form → 53 ≡ causeNumber cause
+  unfolding causeNumber
+  number-form e = rw e
+
+  pub number-version : cause ≡ C.Version → 54 ≡ causeNumber cause
+  unfolding causeNumber
+  number-version e = rw e
+
+  pub number-mode : cause ≡ C.Mode → 55 ≡ causeNumber cause
+  unfolding causeNumber
+  number-mode e = rw e
+
+  pub number-max-age : cause ≡ C.MaxAge → 56 ≡ causeNumber cause
+  unfolding causeNumber
+  number-max-age e = rw e
+
+  pub number-mx : cause ≡ C.Mx → 57 ≡ causeNumber cause
+  unfolding causeNumber
+  number-mx e = rw e
+
+pub fault-refused : (f : Fault) (number : ℕ) → number ≡ causeNumber (f .cause) → refusedAt number (f .line) (f .offset) ≡ faultAnswer f
+unfolding faultAnswer
+fault-refused f number e = rw e
+
+pub ruleset cause-laws = (number-form, number-version, number-mode, number-max-age, number-mx, fault-refused, needs)
+
 pub ruleset enough-laws = (enough-enforce, enough-testing, enough-none, needs)
 
 -- `acceptance`: what `mode_number` and `capped` gave
-pub accept : (mode : Mode) (age m number : ℕ) (life : Lifetime) → number ≡ modeNumber mode → life ≡ lifetimeOf age → _≡_ {A = PolicyAnswer} (record { number = 7; mode = number; lifetime = life .0; «mx_count» = m }) (accepted mode age m)
+pub accept : (mode : Mode) (age m number : ℕ) (life : Lifetime) → number ≡ modeNumber mode → life ≡ lifetimeOf age → _≡_ {A = PolicyAnswer} (record { number = 7; mode = number; lifetime = life .0; «mx_count» = m; line = 0; offset = 0 }) (accepted mode age m)
 unfolding accepted
 accept mode age m number life e f = rw (e, f)
 
@@ -129,24 +160,39 @@ module _ (a : PolicyAnswer) (x : Bool) where
 pub ruleset host-laws = (unlisted, listed, needs)
 
 -- a refusal lists no host
-refused-for : (number : ℕ) → eqb number 7 ≡ false → (x y : Bool) → forHost (refused number) x ≡ forHost (refused number) y
+refused-for : (a : PolicyAnswer) → eqb (a .number) 7 ≡ false → (x y : Bool) → forHost a x ≡ forHost a y
 unfolding forHost
-refused-for number e x y = rw (e, and-false x, and-false y)
+refused-for a e x y = rw (e, and-false x, and-false y)
+
+-- a fault is refused with 53 to 57
+pub cause-range : (c : Cause) → (53 ≤ causeNumber c) × (causeNumber c ≤ 57)
+unfolding causeNumber
+cause-range C.Form = (omega arith, omega arith)
+cause-range C.Version = (omega arith, omega arith)
+cause-range C.Mode = (omega arith, omega arith)
+cause-range C.MaxAge = (omega arith, omega arith)
+cause-range C.Mx = (omega arith, omega arith)
+
+fault-refuses : (f : Fault) → eqb (faultAnswer f .number) 7 ≡ false
+unfolding faultAnswer
+fault-refuses f = ne-eqb (causeNumber (f .cause)) 7 (λ e. absurd (omega (arith, cause-range (f .cause) .0)))
 
 -- `read_body`: c is what `check` gave, r is the answer
 module _ (s host : List ℕ) (x : Bool) (a : PolicyAnswer) (r : PolicyFor) where
   pub too-long : 65536 < length s → a ≡ refused 50 → r ≡ forHost a false → r ≡ forHost (policyAnswer s) (x || someMatches (patternsOf s) host)
   unfolding policyAnswer readBody answerTo
-  too-long h e f = rw (lt-ltb 65536 (length s) h) (f ∙ rw e (refused-for 50 refl false (x || someMatches (patternsOf s) host)))
+  too-long h e f = rw (lt-ltb 65536 (length s) h) (f ∙ rw e (refused-for (refused 50) refl false (x || someMatches (patternsOf s) host)))
 
   module _ (c : Checked) (g : c ≡ checked host x s) (h : length s ≤ 65536) where
-    pub malformed-body : (b : Fault) → c ≡ Checked.Refused b → a ≡ refused 51 → r ≡ forHost a false → r ≡ forHost (policyAnswer s) (x || someMatches (patternsOf s) host)
+    pub malformed-body : (b : Fault) → c ≡ Checked.Refused b → a ≡ faultAnswer b → r ≡ forHost a false → r ≡ forHost (policyAnswer s) (x || someMatches (patternsOf s) host)
     unfolding policyAnswer readBody checked judged outcome answerTo
     malformed-body b k e i = rw (le-ltb 65536 (length s) h) (go (bodyFault s) (sym g ∙ k))
       where
         go : (f : Option Fault) → outcome (seenIn (lines s)) (length (patterns (lines s))) (x || someMatches (patterns (lines s)) host) f ≡ Checked.Refused b → r ≡ forHost (answerTo (judged f (lines s))) (x || someMatches (patternsOf s) host)
         go none k = never cc
-        go (some f) k = i ∙ rw e (refused-for 51 refl false (x || someMatches (patternsOf s) host))
+        go (some f) k =
+            let same : b ≡ f = cc in
+            i ∙ rw (e, same) (refused-for (faultAnswer f) (fault-refuses f) false (x || someMatches (patternsOf s) host))
 
     pub sound-body : (q : Seen) (m : ℕ) (y : Bool) → c ≡ Checked.Read q m y → a ≡ seenAnswer q m → r ≡ forHost a y → r ≡ forHost (policyAnswer s) (x || someMatches (patternsOf s) host)
     unfolding policyAnswer readBody checked judged outcome completed seenAnswer seenIn patternsOf

@@ -11,7 +11,7 @@ use lib.Seq.{drop-drop, getD-drop}
 use borrow.Author.Needs.{needs}
 use borrow.Author.Tests.{lt-ltb, le-ltb}
 use Rattle.lists.specs.Split.{indexOf, toFirst}
-use Rattle.lists.proofs.Split.{indexOf-le}
+use Rattle.lists.proofs.Split.{indexOf-le, toFirst-some}
 use Rattle.lists.proofs.Laws.{ltb-suc, ltb-drop}
 use Rattle.lists.proofs.Every.{found-within}
 use Rattle.policies.specs.Lines.{lines, lineStart}
@@ -104,6 +104,22 @@ module _ (s : List ℕ) (at e t : ℕ) (f : e ≡ at + indexOf 10 (drop at s)) (
       let y : at + suc (indexOf 10 (drop at s)) ≡ e + 1 = omega arith in
       let z : lines (drop at s) ≡ take (textEnd (drop at s) 0 (indexOf 10 (drop at s))) (drop at s) ∷ lines (drop (suc (indexOf 10 (drop at s))) (drop at s)) = lines-first (drop at s) (omega (arith, length-drop at s)) in
       cc (drop-drop (suc (indexOf 10 (drop at s))) at s)
+
+-- a byte stands in some line
+pub lines-there : (x : ℕ) (s : List ℕ) → 1 ≤ length (lines (x ∷ s))
+unfolding lines
+lines-there x [] = go (eqb x 10) (eqb x 13)
+  where
+    go : (t u : Bool) → 1 ≤ length (cond t ([] ∷ []) (cond (u && false) [] (toFirst x [])))
+    go true u = omega arith
+    go false true = toFirst-some x []
+    go false false = toFirst-some x []
+lines-there x (y ∷ s) = go (lines-there y s) (eqb x 10) (eqb x 13 && eqb y 10)
+  where
+    go : 1 ≤ length (lines (y ∷ s)) → (t u : Bool) → 1 ≤ length (cond t ([] ∷ lines (y ∷ s)) (cond u (lines (y ∷ s)) (toFirst x (lines (y ∷ s)))))
+    go ih true u = omega arith
+    go ih false true = ih
+    go ih false false = toFirst-some x (lines (y ∷ s))
 
 -- `line_end`
 pub ruleset end-laws = (found-within, needs)

@@ -11,5 +11,7 @@ pub mod Unicode
 pub mod Ends
 pub mod Exactly
 pub mod Paper
+pub mod Begins
+pub mod Diagnosis
 pub mod Sanity
 mod Worked

@@ -8,43 +8,82 @@ use mathlib.Core.Option.{Option, none, some}
 use native.Mathlib.Omega.{arith}
 use lib.Dec.{eqb, leb, ltb}
 use lib.ListN.{length, getD}
-use borrow.Author.Tests.{ne-eqb, le-ltb, leb-true, le-leb, not-true}
-use Rattle.lists.specs.Bytes.{all}
+use borrow.Author.Tests.{eqb-true, ne-eqb, le-ltb, leb-true, le-leb, not-true}
+use Rattle.lists.specs.Bytes.{within, all}
 use Rattle.lists.specs.Equal.{sameBytes}
 use Rattle.lists.specs.Split.{toFirst, lacks}
 use Rattle.lists.specs.Text.{text}
-use Rattle.lists.proofs.Bools.{and-both, never}
-use Rattle.lists.proofs.Split.{toFirst-some}
+use Rattle.lists.proofs.Bools.{apart, and-both, or-elim, never}
+use Rattle.lists.proofs.Laws.{within-true}
 use Rattle.clock.specs.Clock.{longest}
 use Rattle.clock.proofs.Laws.{capped-most}
 use Rattle.policies.specs.declared.Mode.{Mode}
 use Rattle.policies.specs.declared.Mode.the-variants as M
+use Rattle.policies.specs.declared.Cause.{Cause}
 use Rattle.policies.specs.declared.Fault.{Fault}
+use Rattle.policies.specs.declared.PolicyAnswer.{PolicyAnswer}
 use Rattle.policies.specs.Lines.{LF, CR, lines}
-use Rattle.policies.specs.Fields.{valueOf, isNamed, firstNamed, isThere, decimalAfter}
-use Rattle.policies.specs.Policy.{Policy, Reading, tooLong, malformed, incomplete, policy, longestBody, bodyFault, completed, judged, readBody, modeNumber, refused, answerTo, policyAnswer, patternsOf}
+use Rattle.policies.specs.Fields.{valueOf, isNamed, firstNamed, isThere, decimalAfter, causeAfter}
+use Rattle.policies.specs.Policy.{Policy, Reading, tooLong, malformed, incomplete, policy, longestBody, faultAt, orLater, firstFault, bodyFault, completed, judged, readBody, modeNumber, causeNumber, refusedAt, refused, faultAnswer, answerTo, policyAnswer, patternsOf}
 use Rattle.policies.specs.Paper.{Pair, Body, nothing, last, lf, crlf, firstValue, values, Makes, Writes}
+use Rattle.policies.specs.Diagnosis.{Means, line-form, bad-version, bad-mode, bad-max-age, bad-mx}
+use Rattle.policies.proofs.Body.{lines-there}
 use Rattle.policies.proofs.Ends.{no-cr}
+use Rattle.policies.proofs.Answers.{cause-range}
+use Rattle.policies.proofs.Diagnosis.{number-means, completed-number}
 use Rattle.policies.proofs.Exactly.{wellFormed, fault-exactly}
 use Rattle.policies.proofs.Paper.{accepts, accepted, patterns-are, some-byte}
 
--- The number is 7, or a refusal 50, 51 or 52 with zeros
-answers : (r : Reading) → (answerTo r .number ≡ 7) ⊎ (answerTo r ≡ refused 50) ⊎ (answerTo r ≡ refused 51) ⊎ (answerTo r ≡ refused 52)
-unfolding answerTo
-answers tooLong = inr (inl refl)
-answers (malformed f) = inr (inr (inl refl))
-answers incomplete = inr (inr (inr refl))
-answers (policy p) = inl refl
+-- Every answer: 7 with the numbers of a policy, a refusal 50 or 52, or 53 to 57 with a line and an offset; all else is zero
+pub data Answer : PolicyAnswer → Type 0 where
+  answer-7 : (mode lifetime count : ℕ) → Answer (record { number = 7; mode = mode; lifetime = lifetime; «mx_count» = count; line = 0; offset = 0 })
+  answer-50 : Answer (refused 50)
+  answer-52 : Answer (refused 52)
+  answer-wrong : {number : ℕ} {cause : Cause} → Means number cause → (line offset : ℕ) → Answer (refusedAt number line offset)
 
-pub answer-table : (s : List ℕ) → (policyAnswer s .number ≡ 7) ⊎ (policyAnswer s ≡ refused 50) ⊎ (policyAnswer s ≡ refused 51) ⊎ (policyAnswer s ≡ refused 52)
+answers : (r : Reading) → Answer (answerTo r)
+unfolding answerTo faultAnswer
+answers tooLong = answer-50
+answers (malformed f) = answer-wrong (number-means (f .cause)) (f .line) (f .offset)
+answers incomplete = answer-52
+answers (policy p) = answer-7 (modeNumber (p .mode)) (p .lifetime .0) (length (p .patterns))
+
+pub answer-table : (s : List ℕ) → Answer (policyAnswer s)
 unfolding policyAnswer
 answer-table s = answers (readBody s)
 
+-- the refusals of a policy: 50, and 52 to 57. So 51 is none
+abbrev pub isPolicyRefusal : ℕ → Bool
+isPolicyRefusal n = eqb n 50 || within 52 57 n
+
+pub refusal-range : (n : ℕ) → isPolicyRefusal n ≡ true → (50 ≤ n) × (n ≤ 57)
+refusal-range n h = or-elim (eqb n 50) (within 52 57 n) (λ e. let k : n ≡ 50 = eqb-true n 50 e in (omega arith, omega arith)) (λ e. let k = within-true 52 57 n e in (omega (arith, k .0), k .1)) h
+
+pub policy-number : (s : List ℕ) → (eqb (policyAnswer s .number) 7 || isPolicyRefusal (policyAnswer s .number)) ≡ true
+policy-number s = go (policyAnswer s) (answer-table s)
+  where
+    wrong : (n : ℕ) (c : Cause) → Means n c → (eqb n 7 || isPolicyRefusal n) ≡ true
+    wrong n c line-form = refl
+    wrong n c bad-version = refl
+    wrong n c bad-mode = refl
+    wrong n c bad-max-age = refl
+    wrong n c bad-mx = refl
+
+    go : (a : PolicyAnswer) → Answer a → (eqb (a .number) 7 || isPolicyRefusal (a .number)) ≡ true
+    go a (answer-7 m l c) = refl
+    go a answer-50 = refl
+    go a answer-52 = refl
+    go a (answer-wrong {number} {cause} m l k) = wrong number cause m
+
+-- 51 is answered no more
+pub never-51 : (s : List ℕ) → policyAnswer s .number ≡ 51 → ⊥
+never-51 s e = apart (rw e at (policy-number s))
+
 -- and never zero
 never-zero : (r : Reading) → answerTo r .number ≡ 0 → ⊥
-unfolding answerTo
+unfolding answerTo faultAnswer
 never-zero tooLong h = omega arith
-never-zero (malformed f) h = omega arith
+never-zero (malformed f) h = omega (arith, cause-range (f .cause) .0)
 never-zero incomplete h = omega arith
 never-zero (policy p) h = omega arith
 
@@ -75,7 +114,7 @@ module _ (s : List ℕ) (p : Policy) (e : readBody s ≡ policy p) where
   written : Writes s p
   written = accepted s p e
 
-  answer-is : policyAnswer s ≡ record { number = 7; mode = modeNumber (p .mode); lifetime = p .lifetime .0; «mx_count» = length (p .patterns) }
+  answer-is : policyAnswer s ≡ record { number = 7; mode = modeNumber (p .mode); lifetime = p .lifetime .0; «mx_count» = length (p .patterns); line = 0; offset = 0 }
   unfolding policyAnswer answerTo
   answer-is = rw e
 
@@ -98,53 +137,81 @@ module _ (s : List ℕ) (p : Policy) (e : readBody s ≡ policy p) where
       }
 
 pub accepted-answer : (s : List ℕ) → policyAnswer s .number ≡ 7 → Accepts s
-unfolding policyAnswer answerTo
+unfolding policyAnswer answerTo faultAnswer
 accepted-answer s h = go (readBody s) refl h
   where
     go : (r : Reading) → readBody s ≡ r → answerTo r .number ≡ 7 → Accepts s
     go tooLong e k = absurd (omega arith)
-    go (malformed f) e k = absurd (omega arith)
+    go (malformed f) e k = absurd (omega (arith, cause-range (f .cause) .0))
     go incomplete e k = absurd (omega arith)
     go (policy p) e k = policy-accepted s p e
 
--- 50, 51, 52 in order: 50 exactly for more than 65,536 bytes; then 51 exactly for no bytes or lines that are not well-formed; then 52 exactly for a required field missing
-pub answer-exactly : (s : List ℕ) → policyAnswer s ≡ cond (ltb longestBody (length s)) (refused 50) (cond (leb 1 (length s) && wellFormed (lines s)) (answerTo (completed (lines s))) (refused 51))
-unfolding policyAnswer readBody answerTo judged isThere
-answer-exactly s = go (ltb longestBody (length s)) (bodyFault s) (leb 1 (length s) && wellFormed (lines s)) (fault-exactly s)
+-- In the order 50, 53 to 57, 52: 50 exactly for more than 65,536 bytes
+pub long-exactly : (s : List ℕ) → eqb (policyAnswer s .number) 50 ≡ ltb longestBody (length s)
+unfolding policyAnswer readBody judged answerTo faultAnswer
+long-exactly s = go (ltb longestBody (length s)) (bodyFault s)
   where
-    go : (t : Bool) (o : Option Fault) (w : Bool) → isThere o ≡ not w → answerTo (cond t tooLong (judged o (lines s))) ≡ cond t (refused 50) (cond w (answerTo (completed (lines s))) (refused 51))
+    other : (n : ℕ) → (n ≡ 7) ⊎ (n ≡ 52) → eqb n 50 ≡ false
+    other n (inl e) = rw e
+    other n (inr e) = rw e
+
+    go : (t : Bool) (o : Option Fault) → eqb (answerTo (cond t tooLong (judged o (lines s))) .number) 50 ≡ t
+    go true o = refl
+    go false (some f) = ne-eqb (causeNumber (f .cause)) 50 (λ e. absurd (omega (arith, cause-range (f .cause) .0)))
+    go false none = other (answerTo (completed (lines s)) .number) (completed-number (lines s))
+
+-- then 53 to 57 exactly for no bytes or lines that are not well-formed; `diagnosis` and `diagnosed` say which
+pub malformed-exactly : (s : List ℕ) → within 53 57 (policyAnswer s .number) ≡ (not (ltb longestBody (length s)) && not (leb 1 (length s) && wellFormed (lines s)))
+unfolding policyAnswer readBody judged answerTo faultAnswer isThere
+malformed-exactly s = go (ltb longestBody (length s)) (bodyFault s) (leb 1 (length s) && wellFormed (lines s)) (fault-exactly s)
+  where
+    other : (n : ℕ) → (n ≡ 7) ⊎ (n ≡ 52) → within 53 57 n ≡ false
+    other n (inl e) = rw e
+    other n (inr e) = rw e
+
+    go : (t : Bool) (o : Option Fault) (w : Bool) → isThere o ≡ not w → within 53 57 (answerTo (cond t tooLong (judged o (lines s))) .number) ≡ (not t && not w)
     go true o w h = refl
-    go false none true h = refl
+    go false none true h = other (answerTo (completed (lines s)) .number) (completed-number (lines s))
     go false none false h = never cc
     go false (some f) true h = never cc
-    go false (some f) false h = refl
+    go false (some f) false h =
+        let r = cause-range (f .cause) in
+        rw (le-leb 53 (causeNumber (f .cause)) (r .0), le-leb (causeNumber (f .cause)) 57 (r .1))
 
--- a body has a line exactly where it has a byte
-lines-there : (x : ℕ) (s : List ℕ) → 1 ≤ length (lines (x ∷ s))
-unfolding lines
-lines-there x [] = go (eqb x LF) (eqb x CR)
+-- and then 7 or 52 by the required fields
+pub sound-exactly : (s : List ℕ) → length s ≤ longestBody → (leb 1 (length s) && wellFormed (lines s)) ≡ true → policyAnswer s ≡ answerTo (completed (lines s))
+unfolding policyAnswer readBody judged isThere
+sound-exactly s h k = rw (le-ltb longestBody (length s) h) (go (bodyFault s) (fault-exactly s ∙ rw k))
   where
-    go : (t u : Bool) → 1 ≤ length (cond t ([] ∷ []) (cond (u && false) [] (toFirst x [])))
-    go true u = omega arith
-    go false true = toFirst-some x []
-    go false false = toFirst-some x []
-lines-there x (y ∷ s) = go (lines-there y s) (eqb x LF) (eqb x CR && eqb y LF)
+    go : (o : Option Fault) → isThere o ≡ false → answerTo (judged o (lines s)) ≡ answerTo (completed (lines s))
+    go none e = refl
+    go (some f) e = never cc
+
+-- Bodies of the same lines get the same answer, whatever the ends of the lines, but for the offset of a line that offends
+abbrev pub anywhere : PolicyAnswer → PolicyAnswer
+anywhere a = record { number = a .number; mode = a .mode; lifetime = a .lifetime; «mx_count» = a .«mx_count»; line = a .line; offset = 0 }
+
+fault-anywhere : (s t : List ℕ) (earlier ls ms : List (List ℕ)) → anywhere (answerTo (judged (firstFault s earlier ls) ms)) ≡ anywhere (answerTo (judged (firstFault t earlier ls) ms))
+unfolding firstFault orLater faultAt judged answerTo faultAnswer
+fault-anywhere s t earlier [] ms = refl
+fault-anywhere s t earlier (l ∷ ls) ms = go (causeAfter earlier l) (fault-anywhere s t (l ∷ earlier) ls ms)
   where
-    go : 1 ≤ length (lines (y ∷ s)) → (t u : Bool) → 1 ≤ length (cond t ([] ∷ lines (y ∷ s)) (cond u (lines (y ∷ s)) (toFirst x (lines (y ∷ s)))))
-    go ih true u = omega arith
-    go ih false true = ih
-    go ih false false = toFirst-some x (lines (y ∷ s))
+    go : (o : Option Cause) → anywhere (answerTo (judged (firstFault s (l ∷ earlier) ls) ms)) ≡ anywhere (answerTo (judged (firstFault t (l ∷ earlier) ls) ms)) → anywhere (answerTo (judged (orLater s (length earlier) o (firstFault s (l ∷ earlier) ls)) ms)) ≡ anywhere (answerTo (judged (orLater t (length earlier) o (firstFault t (l ∷ earlier) ls)) ms))
+    go none ih = ih
+    go (some c) ih = refl
 
-lines-some : (s : List ℕ) → leb 1 (length s) ≡ leb 1 (length (lines s))
-unfolding lines
-lines-some [] = refl
-lines-some (x ∷ s) = le-leb 1 (length (x ∷ s)) (omega arith) ∙ sym (le-leb 1 (length (lines (x ∷ s))) (lines-there x s))
+no-lines : {A : Type 0} (x : ℕ) (s : List ℕ) → lines (x ∷ s) ≡ [] → A
+no-lines x s e = let z : length (lines (x ∷ s)) ≡ 0 = rw e in absurd (omega (arith, lines-there x s))
 
--- Bodies of the same lines get the same answer, whatever the ends of the lines
-pub answer-by-lines : (s t : List ℕ) → lines s ≡ lines t → length s ≤ longestBody → length t ≤ longestBody → policyAnswer s ≡ policyAnswer t
-answer-by-lines s t e h k =
-    answer-exactly s
-    ∙ rw (le-ltb longestBody (length s) h, lines-some s, e, ← lines-some t) (sym (answer-exactly t ∙ rw (le-ltb longestBody (length t) k)))
+pub answer-by-lines : (s t : List ℕ) → lines s ≡ lines t → length s ≤ longestBody → length t ≤ longestBody → anywhere (policyAnswer s) ≡ anywhere (policyAnswer t)
+unfolding policyAnswer readBody bodyFault lines
+answer-by-lines [] [] e h k = refl
+answer-by-lines [] (y ∷ t) e h k = no-lines y t (sym e)
+answer-by-lines (x ∷ s) [] e h k = no-lines x s e
+answer-by-lines (x ∷ s) (y ∷ t) e h k =
+    let c = ne-eqb (length (x ∷ s)) 0 (λ z. absurd (omega arith)) in
+    let d = ne-eqb (length (y ∷ t)) 0 (λ z. absurd (omega arith)) in
+    rw (le-ltb longestBody (length (x ∷ s)) h, le-ltb longestBody (length (y ∷ t)) k, c, d, e) (fault-anywhere (x ∷ s) (y ∷ t) [] (lines (y ∷ t)) (lines (y ∷ t)))
 
 -- a last end, LF or CRLF, after a line without one changes no line
 module _ (e : List ℕ) (end : (x : ℕ) → (x ≡ LF → ⊥) → (x ≡ CR → ⊥) → lines (x ∷ e) ≡ (x ∷ []) ∷ []) where

@@ -2,7 +2,7 @@
 use Prim.Native.Nat.{ℕ}
 use mathlib.Core.Path.{_≡_, refl}
 use mathlib.Core.Bool.{true, false}
-use mathlib.Core.List.{List, [], _∷_, map}
+use mathlib.Core.List.{[], _∷_, map}
 use mathlib.Core.Option.{Option, none, some}
 use Rattle.lists.specs.Bytes.{all, any, lowerOf}
 use Rattle.lists.specs.Equal.{agree, sameByte, sameLetter}
@@ -19,10 +19,10 @@ use Rattle.policies.specs.declared.Fault.{Fault}
 use Rattle.policies.specs.Texts.{utf8Tail, utf8Two, utf8Three, utf8Four, printable, isText, isValue}
 use Rattle.policies.specs.Lines.{lines, lineStart}
 use Rattle.policies.specs.Fields.{nameOf, valueOf, isLine, isNamed, firstNamed, patterns, isVersion, modeOf, isDigit, decimalAfter, ageOf, isThere, isFirst, causeAfter}
-use Rattle.policies.specs.Policy.{faultAt, orLater, firstFault, bodyFault, modeIn, ageIn, hasPatterns, complete, completed, judged, readBody, modeNumber, refused, answerTo, policyAnswer, patternsOf}
+use Rattle.policies.specs.Policy.{faultAt, orLater, firstFault, bodyFault, modeIn, ageIn, hasPatterns, complete, completed, judged, readBody, modeNumber, causeNumber, refusedAt, refused, faultAnswer, answerTo, policyAnswer, patternsOf}
 
 abbrev accepted : ℕ → ℕ → ℕ → PolicyAnswer
-accepted mode lifetime count = record { number = 7; mode = mode; lifetime = lifetime; «mx_count» = count }
+accepted mode lifetime count = record { number = 7; mode = mode; lifetime = lifetime; «mx_count» = count; line = 0; offset = 0 }
 
 -- RFC 8461, 3.2 and appendix A; line ends mixed, the last left out, blanks, unknown fields, a second mode that no rule reads; no mx under none and under testing;
 -- a max_age above the longest; capital letters in a name of a field; a required field missing; no bytes
@@ -38,8 +38,8 @@ answers : map policyAnswer
     ∷ text "version: STSv1\nmode: none\nmax_age: 12345678901\n"
     ∷ text "version: STSv1\nmode: none\nmax_age: 1\nmx: *.*.a\n"
     ∷ text "" ∷ [])
-    ≡ accepted 1 604800 3 ∷ accepted 2 1296000 3 ∷ accepted 1 7 1 ∷ accepted 3 31557600 0 ∷ refused 52 ∷ refused 52 ∷ refused 52 ∷ refused 51 ∷ refused 51 ∷ refused 51 ∷ refused 51 ∷ []
-unfolding all any agree sameByte spanOf indexOf split toFirst labelByte isLabel isName isStarred isWildcard isPattern cappedAge blank trimmedLength letterOrDigit nameByte isFieldName hasName utf8Tail utf8Two utf8Three utf8Four printable isText isValue lines lineStart nameOf valueOf isLine isNamed firstNamed patterns isVersion modeOf isDigit decimalAfter ageOf isThere isFirst causeAfter faultAt orLater firstFault bodyFault modeIn ageIn hasPatterns complete completed judged readBody modeNumber answerTo policyAnswer
+    ≡ accepted 1 604800 3 ∷ accepted 2 1296000 3 ∷ accepted 1 7 1 ∷ accepted 3 31557600 0 ∷ refused 52 ∷ refused 52 ∷ refused 52 ∷ refusedAt 54 1 0 ∷ refusedAt 56 3 26 ∷ refusedAt 57 4 37 ∷ refusedAt 53 1 0 ∷ []
+unfolding all any agree sameByte spanOf indexOf split toFirst labelByte isLabel isName isStarred isWildcard isPattern cappedAge blank trimmedLength letterOrDigit nameByte isFieldName hasName utf8Tail utf8Two utf8Three utf8Four printable isText isValue lines lineStart nameOf valueOf isLine isNamed firstNamed patterns isVersion modeOf isDigit decimalAfter ageOf isThere isFirst causeAfter faultAt orLater firstFault bodyFault modeIn ageIn hasPatterns complete completed judged readBody modeNumber causeNumber faultAnswer answerTo policyAnswer
 answers = refl
 
 -- the first fault, its line and where that begins: an empty line, a final CR, a lone CR, a blank before the colon, a tab inside a value, DEL, and contents

@@ -1,4 +1,4 @@
--- Document 01, "Policy body": what a body is read as, and the answer to it.
+-- Document 01, "Policy body": what a body is read as, and the answer to it. Document 02, No. 2: what is wrong with a policy.
 use Prim.Native.Nat.{ℕ, _+_}
 use mathlib.Core.Bool.{Bool, true, false, cond, _&&_}
 use mathlib.Core.List.{List, [], _∷_}
@@ -94,7 +94,7 @@ unfoldable pub judged : Option Fault → List (List ℕ) → Reading
 judged (some fault) ls = malformed fault
 judged none ls = completed ls
 
--- what a body is read as, in the order 50, 51, 52
+-- what a body is read as, in the order 50, 53 to 57, 52
 unfoldable pub readBody : List ℕ → Reading
 readBody s = cond (ltb longestBody (length s)) tooLong (judged (bodyFault s) (lines s))
 
@@ -104,16 +104,32 @@ modeNumber M.Enforce = 1
 modeNumber M.Testing = 2
 modeNumber M.None = 3
 
--- a refusal has its number, and zeros
-abbrev pub refused : ℕ → PolicyAnswer
-refused number = record { number = number; mode = 0; lifetime = 0; «mx_count» = 0 }
+-- the number of a cause: "53 line form, 54 bad version, 55 bad mode, 56 bad max_age, 57 bad mx"
+unfoldable pub causeNumber : Cause → ℕ
+causeNumber C.Form = 53
+causeNumber C.Version = 54
+causeNumber C.Mode = 55
+causeNumber C.MaxAge = 56
+causeNumber C.Mx = 57
 
--- document 01's number for each, and for a policy its mode, its lifetime and the count of `mx` lines
+-- a refusal with this number and this line that offends, counted from 1, which begins at this offset
+abbrev pub refusedAt : (number line offset : ℕ) → PolicyAnswer
+refusedAt number line offset = record { number = number; mode = 0; lifetime = 0; «mx_count» = 0; line = line; offset = offset }
+
+-- a refusal that names no line has its number, and zeros
+abbrev pub refused : ℕ → PolicyAnswer
+refused number = refusedAt number 0 0
+
+-- the refusal of a fault: "Besides the number return the first line that offends, counted from 1, and the byte offset where it begins"
+unfoldable pub faultAnswer : Fault → PolicyAnswer
+faultAnswer fault = refusedAt (causeNumber (fault .cause)) (fault .line) (fault .offset)
+
+-- the papers' number for each; for a fault its line, and for a policy its mode, its lifetime and the count of `mx` lines
 unfoldable pub answerTo : Reading → PolicyAnswer
 answerTo tooLong = refused 50
-answerTo (malformed fault) = refused 51
+answerTo (malformed fault) = faultAnswer fault
 answerTo incomplete = refused 52
-answerTo (policy p) = record { number = 7; mode = modeNumber (p .mode); lifetime = p .lifetime .0; «mx_count» = length (p .patterns) }
+answerTo (policy p) = record { number = 7; mode = modeNumber (p .mode); lifetime = p .lifetime .0; «mx_count» = length (p .patterns); line = 0; offset = 0 }
 
 -- the answer to a body
 unfoldable pub policyAnswer : List ℕ → PolicyAnswer

@@ -160,7 +160,7 @@ checked h x s = outcome (seenIn (lines s)) (length (patterns (lines s))) (x || s
 
 -- the answer to a policy with m patterns
 unfoldable pub accepted : Mode → ℕ → ℕ → PolicyAnswer
-accepted mode age m = record { number = 7; mode = modeNumber mode; lifetime = cappedAge age; «mx_count» = m }
+accepted mode age m = record { number = 7; mode = modeNumber mode; lifetime = cappedAge age; «mx_count» = m; line = 0; offset = 0 }
 
 -- m patterns are enough for the mode
 unfoldable pub enough : Mode → ℕ → Bool

@@ -13,7 +13,7 @@ ghost use Rattle.fields.specs.Name.{hasName, fieldAt};
 ghost use Rattle.policies.specs.Texts.{printable, isText};
 ghost use Rattle.policies.specs.declared.Checked.{Checked};
 ghost use Rattle.policies.specs.Fields.{modeOf, ageOf, valueOf};
-ghost use Rattle.policies.specs.Policy.{modeNumber, refused, policyAnswer, patternsOf, policyFor};
+ghost use Rattle.policies.specs.Policy.{modeNumber, causeNumber, refused, faultAnswer, policyAnswer, patternsOf, policyFor};
 ghost use Rattle.policies.specs.Reader.{strippedValue, textEnd, kindOf, heldMode, heldAge, holdsMode, modeHeld, takeVersion, takeMode, takeAge, takeMx, takeField, takeLine, turnAt, checked, enough, accepted, seenAnswer, forHost};
 use fields::Field;
 use names::Pattern;
@@ -25,9 +25,17 @@ pub const ACCEPTED: u64 = 7;
 
 pub const TOO_LONG: u64 = 50;
 
-pub const MALFORMED: u64 = 51;
-
 pub const INCOMPLETE: u64 = 52;
+
+pub const BAD_LINE: u64 = 53;
+
+pub const BAD_VERSION: u64 = 54;
+
+pub const BAD_MODE: u64 = 55;
+
+pub const BAD_MAX_AGE: u64 = 56;
+
+pub const BAD_MX: u64 = 57;
 
 // The numbers of the modes.
 pub const ENFORCE: u64 = 1;
@@ -39,13 +47,16 @@ pub const NONE: u64 = 3;
 // The most bytes of a body.
 pub const LONGEST_BODY: usize = 65536;
 
-// The answer to a policy body: on 7 its mode, its lifetime in seconds and the count of its mx lines; on a refusal zeros.
+// The answer to a policy body: on 7 its mode, its lifetime in seconds and the count of its mx lines; on 53 to 57 the first line that offends, counted from 1,
+// and the place where it begins. All else is zero.
 #[repr(C)]
 pub struct PolicyAnswer {
     pub number: u64,
     pub mode: u64,
     pub lifetime: u64,
     pub mx_count: u64,
+    pub line: u64,
+    pub offset: u64,
 }
 
 // The answer to a policy body, and whether the body is accepted and one of its patterns matches a host.
@@ -507,7 +518,7 @@ fn check(s: &[u8], host: &[u8], known: bool) -> Checked
     Checked::Read(seen, count, listed)
 }
 
-// A refusal.
+// A refusal that names no line.
 fn refusal(number: u64) -> PolicyAnswer
     ensures { λ r. ⌜ r ≡ refused number ⌝ }
 {
@@ -516,6 +527,39 @@ fn refusal(number: u64) -> PolicyAnswer
         mode: 0,
         lifetime: 0,
         mx_count: 0,
+        line: 0,
+        offset: 0,
+    }
+}
+
+// The number of a cause.
+fn cause_number(cause: Cause) -> u64
+    ensures { λ r. ⌜ r ≡ causeNumber cause ⌝ }
+{
+    match cause {
+        Cause::Form => BAD_LINE,
+        Cause::Version => BAD_VERSION,
+        Cause::Mode => BAD_MODE,
+        Cause::MaxAge => BAD_MAX_AGE,
+        Cause::Mx => BAD_MX,
+    }
+}
+
+// The refusal of a fault.
+fn fault_refusal(fault: Fault) -> PolicyAnswer
+    ensures { λ r. ⌜ r ≡ faultAnswer fault ⌝ }
+{
+    let cause = fault.cause;
+    let number = cause_number(cause);
+    let line = fault.line;
+    let offset = fault.offset;
+    PolicyAnswer {
+        number: number,
+        mode: 0,
+        lifetime: 0,
+        mx_count: 0,
+        line: line,
+        offset: offset,
     }
 }
 
@@ -553,6 +597,8 @@ fn acceptance(mode: Mode, age: u64, count: u64) -> PolicyAnswer
         mode: number,
         lifetime: seconds,
         mx_count: count,
+        line: 0,
+        offset: 0,
     }
 }
 
@@ -600,12 +646,12 @@ fn read_body(body: &[u8], host: &[u8], known: bool) -> PolicyFor
     }
     let read = check(body, host, known);
     match read {
-        Checked::Refused(_) => for_host(refusal(MALFORMED), false),
+        Checked::Refused(fault) => for_host(fault_refusal(fault), false),
         Checked::Read(seen, count, listed) => for_host(answer(seen, count), listed),
     }
 }
 
-// Reads a policy body: 7 with its mode, lifetime and count of mx lines, or 50, 51, 52.
+// Reads a policy body: 7 with its mode, lifetime and count of mx lines; 53 to 57 with the first line that offends; or 50 or 52.
 pub fn read_policy(body: &[u8]) -> PolicyAnswer
     ensures { λ r. ⌜ r ≡ policyAnswer (now (body .entry)) ⌝ }
 {

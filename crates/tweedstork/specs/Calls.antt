@@ -7,9 +7,9 @@ use Rattle.messages.specs.declared.MxLookup.{MxLookup}
 use Rattle.messages.specs.Hosts.{noHost, nextHost}
 use Rattle.tweedstork.specs.Codes.{mxLookupOf}
 
--- tweedstork_version: major * 10100 + minor * 100 + patch, as in the header
+-- tweedstork_version: major * 10000 + minor * 100 + patch, as in the header
 abbrev pub version : ℕ
-version = 10100
+version = 10200
 
 -- document 01, "Answer numbers": an input code outside its named choices is 67, before all others
 unfoldable pub lookedUp : Option MxLookup → List ℕ → List ℕ → MessageAnswer

@@ -24,7 +24,7 @@ pub enum Outcome {
 // The numbers of an answer, in the order of its struct, and zeros after them.
 pub struct Answer {
     pub count: usize,
-    pub numbers: [u64; 4],
+    pub numbers: [u64; 6],
 }
 
 // Runs the case of a line: field 0 names the call, field 1 the case, then come the call's arguments, `=>` and its answer. `d` are
@@ -92,15 +92,15 @@ fn compared_txt(s: &[u8], f: Fields, r: TxtAnswer, output: &[u8]) -> Outcome {
 }
 
 fn read_policy(s: &[u8], f: Fields) -> Outcome {
-    if !has_kinds_at(f, 0, f.count, b"wwb=nnnn") {
+    if !has_kinds_at(f, 0, f.count, b"wwb=nnnnnn") {
         return Outcome::Unreadable;
     }
     let r = tweedstork::tweedstork_read_policy(bytes_at(s, f, 2));
-    compared(
-        name(s, f),
-        expected_at(f, 4, 4),
-        answer_of(4, r.number, r.mode, r.lifetime, r.mx_count),
-    )
+    let got = Answer {
+        count: 6,
+        numbers: [r.number, r.mode, r.lifetime, r.mx_count, r.line, r.offset],
+    };
+    compared(name(s, f), expected_at(f, 4, 6), got)
 }
 
 // The last three fields are `=>` and the answer; those before are facts. A case whose default can't be read can't be read either.
@@ -180,15 +180,17 @@ pub(crate) fn expected_at(f: Fields, k: usize, count: usize) -> Answer {
             number_at(f, k + 1),
             number_at(f, k + 2),
             number_at(f, k + 3),
+            number_at(f, k + 4),
+            number_at(f, k + 5),
         ],
     }
 }
 
-// An answer of so many numbers; the others are 0.
+// An answer of so many numbers, at most four; the others are 0.
 pub(crate) fn answer_of(count: usize, a: u64, b: u64, c: u64, d: u64) -> Answer {
     Answer {
         count: count,
-        numbers: [a, b, c, d],
+        numbers: [a, b, c, d, 0, 0],
     }
 }
 
@@ -196,7 +198,7 @@ pub(crate) fn answer_of(count: usize, a: u64, b: u64, c: u64, d: u64) -> Answer 
 pub(crate) fn compared(case: &[u8], expected: Answer, got: Answer) -> Outcome {
     let a = expected.numbers;
     let b = got.numbers;
-    if a[0] == b[0] && a[1] == b[1] && a[2] == b[2] && a[3] == b[3] {
+    if same_numbers(a, b) {
         return Outcome::Passed;
     }
     io::write_all(STDOUT_FILENO, case);
@@ -208,12 +210,18 @@ pub(crate) fn compared(case: &[u8], expected: Answer, got: Answer) -> Outcome {
     Outcome::Differs
 }
 
+fn same_numbers(a: [u64; 6], b: [u64; 6]) -> bool {
+    a[0] == b[0] && a[1] == b[1] && a[2] == b[2] && a[3] == b[3] && a[4] == b[4] && a[5] == b[5]
+}
+
 fn say_answer(a: Answer) {
     let n = a.numbers;
     io::print_decimal(STDOUT_FILENO, n[0]);
     say_more(1 < a.count, n[1]);
     say_more(2 < a.count, n[2]);
     say_more(3 < a.count, n[3]);
+    say_more(4 < a.count, n[4]);
+    say_more(5 < a.count, n[5]);
 }
 
 fn say_more(is_there: bool, n: u64) {

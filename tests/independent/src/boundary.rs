@@ -7,7 +7,7 @@
 
 use crate::random::Random;
 use independent_rules::cache::{Entry, LookupAnswer, StoreAnswer};
-use independent_rules::exports::{Host, Message, Policy, Txt, Write};
+use independent_rules::exports::{Host, Message, Txt, Write};
 use independent_rules::rules::{HostAnswer, HostCall, MessageAnswer, PolicyAnswer, TxtAnswer};
 use std::cell::Cell;
 use std::ffi::c_void;
@@ -19,7 +19,7 @@ extern "C" {
         rdatas: *const u8, rdatas_length: usize,
         lengths: *const u8, lengths_length: usize,
         output: *mut u8, output_length: usize) -> Txt;
-    fn tweedstork_read_policy(body: *const u8, body_length: usize) -> Policy;
+    fn tweedstork_read_policy(body: *const u8, body_length: usize) -> PolicyAnswer;
     fn tweedstork_judge_host(
         clock: u64,
         next_hop: *const u8, next_hop_length: usize,
@@ -230,7 +230,7 @@ impl Lender {
         // SAFETY: a valid slice.
         let a = unsafe { tweedstork_read_policy(b, body.len()) };
         self.check(0, body, place);
-        (a.number, a.mode, a.lifetime, a.mx_count)
+        a
     }
 
     pub fn judge_host(&mut self, c: &HostCall, place: Place) -> HostAnswer {
@@ -322,3 +322,4 @@ fn bytes_of_mut(table: &mut [Entry]) -> &mut [u8] {
 }
 
 const _: () = assert!(std::mem::size_of::<Entry>() == 253 + 32 + 3 + 8 + 8);
+const _: () = assert!(std::mem::size_of::<PolicyAnswer>() == 6 * 8);

@@ -81,9 +81,9 @@ fn held<'a>(entry: &'a Entry, room: &'a [u8]) -> Option<Held<'a>> {
     }
     let (domain, id) = (less_final_zeros(&entry.domain), less_final_zeros(&entry.id));
     let text = &room[..entry.length as usize];
-    let (policy, _, lifetime, _) = read_policy(text);
-    let accepted = is_name(domain) && is_id(id) && is_clock(entry.fetched) && policy == 7;
-    accepted.then_some(Held { domain, id, fetched: entry.fetched, lifetime, text })
+    let policy = read_policy(text);
+    let accepted = is_name(domain) && is_id(id) && is_clock(entry.fetched) && policy.number == 7;
+    accepted.then_some(Held { domain, id, fetched: entry.fetched, lifetime: policy.lifetime, text })
 }
 
 // ---------------------------------------------------------------------------------------------------------------- the table
@@ -138,8 +138,8 @@ fn refusal(clock: u64, domain: &[u8], table: &[Entry], texts: &[u8]) -> Option<u
     (!is_name(domain)).then_some(60)
 }
 
-/// "Order: 74, 62, 60, 80, 50 to 52, 71, 70; a refusal changes nothing, a store only its entry and the text's bytes." Where the
-/// policy went, or the number of a refusal.
+/// "Order: 74, 62, 60, 80, 50 to 52, 71, 70; a refusal changes nothing, a store only its entry and the text's bytes." With No. 2
+/// "53 to 57 stand wherever 51 stood". Where the policy went, or the number of a refusal.
 pub fn stored(clock: u64, domain: &[u8], id: &[u8], policy: &[u8], table: &mut [Entry], texts: &mut [u8]) -> Result<Target, u64> {
     if let Some(number) = refusal(clock, domain, table, texts) {
         return Err(number);
@@ -148,7 +148,7 @@ pub fn stored(clock: u64, domain: &[u8], id: &[u8], policy: &[u8], table: &mut [
     if !is_id(id) {
         return Err(80);
     }
-    let (number, ..) = read_policy(policy);
+    let number = read_policy(policy).number;
     if number != 7 {
         return Err(number);
     }

@@ -2,7 +2,7 @@
 //! domains often meet, and policies are live or stale by a second; then one thing of it is damaged.
 
 use crate::boundary::StoreCall;
-use crate::inputs::{self, bad_name, damage, letters, name_of_length, other_case, padded, EDGES, LAST_CLOCK};
+use crate::inputs::{self, bad_name, damage, letters, name_of_length, offend, other_case, padded, EDGES, LAST_CLOCK};
 use crate::random::Random;
 use independent_rules::cache::{Entry, ENTRIES, ROOM, TEXTS};
 
@@ -359,7 +359,7 @@ fn bad_id(r: &mut Random) -> Vec<u8> {
     }
 }
 
-/// Mostly refused, with 50 to 52; or over 1,024 bytes.
+/// Mostly refused, with 50 or 52 to 57; or over 1,024 bytes.
 fn bad_policy(r: &mut Random, pool: &Pool) -> Vec<u8> {
     let mut body = text(r, pool).body;
     match r.below(9) {
@@ -381,6 +381,16 @@ fn bad_policy(r: &mut Random, pool: &Pool) -> Vec<u8> {
     body
 }
 
+/// A line of it offends: 53 to 57. A few are over 1,024 bytes too.
+fn offending_policy(r: &mut Random, pool: &Pool) -> Vec<u8> {
+    let mut body = text(r, pool).body;
+    offend(r, &mut body);
+    if r.once_in(10) {
+        padded(r, &mut body, ROOM + 1);
+    }
+    body
+}
+
 fn long_policy(r: &mut Random, pool: &Pool) -> Vec<u8> {
     let mut body = text(r, pool).body;
     let size = if r.once_in(2) { ROOM + 1 } else { *r.pick(&[1026, 1100, 2048, 4096, 65_536]) };
@@ -394,7 +404,7 @@ fn bad_clock(r: &mut Random) -> u64 {
     *r.pick(&[LAST_CLOCK + 1, LAST_CLOCK + 2, 1 << 38, 1 << 63, u64::MAX])
 }
 
-/// A call at the pool's clock; one in four has faults, several at once.
+/// A call at the pool's clock; one in four has faults, several at once. Of the other stores a few have a policy that offends.
 pub fn call(r: &mut Random, pool: &Pool) -> Call {
     let faults = r.once_in(4);
     let fault = |r: &mut Random| faults && r.once_in(4);
@@ -409,6 +419,7 @@ pub fn call(r: &mut Random, pool: &Pool) -> Call {
         true if r.once_in(3) => long_policy(r, pool),
         true => bad_policy(r, pool),
         false if r.once_in(40) => inputs::policy(r),
+        false if r.once_in(20) => offending_policy(r, pool),
         false => text(r, pool).body,
     };
     Call::Store(StoreCall { clock, domain, id, policy })

@@ -5,7 +5,7 @@ use crate::boundary::{Lender, Place, Side, StoreCall};
 use crate::caches::Cache;
 use crate::inputs::list;
 use independent_rules::cache::{self, Entry, LookupAnswer, ROOM};
-use independent_rules::rules::{self, HostCall, TlsaAnswer};
+use independent_rules::rules::{self, HostCall, PolicyAnswer, TlsaAnswer};
 
 const MIDDLE: Place = Place { side: Side::Open(0), turn: 0 };
 const BEFORE_GUARD: Place = Place { side: Side::BeforeGuard, turn: 1 };
@@ -37,10 +37,20 @@ impl Check<'_> {
         self.same(text, (wanted, output), (ours, a), (theirs, b));
     }
 
-    fn policy(&mut self, body: &str, wanted: (u64, u64, u64, u64)) {
-        let ours = rules::read_policy(body.as_bytes());
-        let theirs = self.lender.read_policy(body.as_bytes(), BEFORE_GUARD);
-        self.same(body, wanted, ours, theirs);
+    fn policy(&mut self, body: &[u8], wanted: PolicyAnswer) {
+        let ours = rules::read_policy(body);
+        let theirs = self.lender.read_policy(body, BEFORE_GUARD);
+        let shown = &body[..body.len().min(100)];
+        self.same(&shown.escape_ascii().to_string(), wanted, ours, theirs);
+    }
+
+    /// Without a line: accepted with these fields, or 50 or 52.
+    fn read(&mut self, body: &str, number: u64, mode: u64, lifetime: u64, mx_count: u64) {
+        self.policy(body.as_bytes(), PolicyAnswer { number, mode, lifetime, mx_count, ..Default::default() });
+    }
+
+    fn offends(&mut self, body: &str, number: u64, line: u64, offset: u64) {
+        self.policy(body.as_bytes(), PolicyAnswer { number, line, offset, ..Default::default() });
     }
 
     fn host(&mut self, what: &str, call: &HostCall, wanted: (u64, u64)) {
@@ -119,6 +129,9 @@ const WEEK: &[u8] = b"version: STSv1\nmode: enforce\nmx: *.example.com\nmax_age:
 const SHORT: &[u8] = b"version: STSv1\nmode: none\nmax_age: 10\n";
 const SHORTER: &[u8] = b"version: STSv1\nmode: none\nmax_age: 9";
 
+/// A line with each of the faults of content.
+const CONTENT: [(u64, &str); 4] = [(54, "version: STSv2"), (55, "mode: Enforce"), (56, "max_age: -1"), (57, "mx: a..b")];
+
 /// A policy of a week in so many bytes.
 fn long(size: usize) -> Vec<u8> {
     [WEEK, b"x:", &vec![b'y'; size - WEEK.len() - 2]].concat()
@@ -142,7 +155,11 @@ fn cached(c: &mut Check) -> Cache {
     // Refusals change nothing.
     c.store(&mut cache, 1, "example.com.", WEEK, Err(60));
     c.store(&mut cache, 253_402_300_800, "", b"", Err(62));
-    c.store(&mut cache, 1, "example.com", b"", Err(51));
+    c.store(&mut cache, 1, "example.com", b"", Err(53));
+    for (number, line) in CONTENT {
+        c.store(&mut cache, 1, "example.com", format!("{line}\n").as_bytes(), Err(number));
+        c.store(&mut cache, 1, "example.com", &[line.as_bytes(), b"\n", &long(1025)].concat(), Err(number));
+    }
     c.store(&mut cache, 1, "example.com", &long(1025), Err(71));
     cache
 }
@@ -176,6 +193,62 @@ fn cached_in_a_full_table(c: &mut Check, mut cache: Cache) {
     c.store(&mut cache, u64::MAX, "", b"", Err(74));
 }
 
+fn policies(c: &mut Check) {
+    c.read("version: STSv1\nmode: enforce\nmx: *.example.com\nmax_age: 604800\n", 7, 1, 604_800, 1);
+    c.read("version: STSv1\r\nmode: none\r\nmax_age: 9999999999", 7, 3, 31_557_600, 0);
+    c.read("version: STSv1\nmode: testing\nmax_age: 1\n", 52, 0, 0, 0);
+    c.read("max_age: 1\nmx: a\nversion: STSv1", 52, 0, 0, 0);
+    // Only the first of each counts, but every mx; names are case-sensitive.
+    c.read("mode: none\nversion: STSv1\nmode: x\nversion: STSv2\nmax_age: 1\nmax_age: x\n", 7, 3, 1, 0);
+    c.read("Version: 2\nMODE: x\nMax_Age: x\nMX: ..\nversion: STSv1\nmode: none\nmax_age: 1", 7, 3, 1, 0);
+}
+
+/// Document 02, No. 2: "the first line that offends, counted from 1, and the byte offset where it begins".
+fn policies_that_offend(c: &mut Check) {
+    // "A body of zero bytes is 53 at line 1."
+    c.offends("", 53, 1, 0);
+    // Line form: "An empty line, (...) a lone CR, or a blank before the colon".
+    c.offends("\n", 53, 1, 0);
+    c.offends("\r\n", 53, 1, 0);
+    c.offends("version: STSv1\n\nmode: none\nmax_age: 1\n", 53, 2, 15);
+    c.offends("version: STSv1\r\nmode: none\r\nmax_age: 1\r\n\r\n", 53, 4, 40);
+    c.offends("version: STSv1\nmode: none\nmax_age: 1\r", 53, 3, 26);
+    c.offends("version: STSv1\rmode: none\nmax_age: 1\n", 53, 1, 0);
+    c.offends("version: STSv1\nmode: none\r\r\nmax_age: 1\n", 53, 2, 15);
+    c.offends("version: STSv1\nmode : none\nmax_age: 1\n", 53, 2, 15);
+    c.offends("version: STSv1\nmode: none\nmax_age: 1\nnote: a\tb", 53, 4, 37);
+    c.offends("version: STSv1\nmode: none\nmax_age:\n", 53, 3, 26);
+    c.offends("version: STSv1\nmode: none\nmax_age", 53, 3, 26);
+    // Content, after LF and after CRLF.
+    c.offends("version: STSv2\nmode: none\nmax_age: 1\n", 54, 1, 0);
+    c.offends("mode: none\r\nversion: stsv1\r\nmax_age: 1\r\n", 54, 2, 12);
+    c.offends("version: STSv1\r\nmode: None\r\nmax_age: 1\r\n", 55, 2, 16);
+    c.offends("version: STSv1\nmode: none\nmax_age: 00000000001", 56, 3, 26);
+    c.offends("version: STSv1\nmode: none\nmax_age: 1\nmx: a\nmx: b.\n", 57, 5, 43);
+    // "the first line that offends"
+    c.offends("mx: *\nmax_age: x\nmode: x\nversion: x\n\n", 57, 1, 0);
+    c.offends("max_age: x\nmode: x\nversion: x\n\nmx: *\n", 56, 1, 0);
+    c.offends("x: y\nmode: x\nversion: x\n\nmx: *\nmax_age: x\n", 55, 2, 5);
+    c.offends("x: y\n\nmx: *\nmax_age: x\nmode: x\nversion: x\n", 53, 2, 5);
+    // "within a line, form comes before content", and a fault of form counts in a line that isn't the first of its name.
+    c.offends("version: STS\tv2\nmode: none\n", 53, 1, 0);
+    c.offends("version: STSv1\nmode: x\r", 53, 2, 15);
+    c.offends("version: STSv1\nversion:\n", 53, 2, 15);
+    // "52 still comes after them"
+    c.offends("max_age: 1\nmx: a_b", 57, 2, 11);
+}
+
+/// At the limit of 65,536 bytes.
+fn policies_of_many_lines(c: &mut Check) {
+    let lines = "a:b\n".repeat(16_383);
+    c.offends(&format!("{lines}\n"), 53, 16_384, 65_532);
+    c.offends(&format!("{lines}mx:"), 53, 16_384, 65_532);
+    c.offends(&format!("{}mx:..\n", &lines[..4000]), 57, 1001, 4000);
+    c.offends(&"\0".repeat(65_536), 53, 1, 0);
+    c.read(&format!("{lines}a:b\n"), 52, 0, 0, 0);
+    c.read(&"\0".repeat(65_537), 50, 0, 0, 0);
+}
+
 pub fn run(lender: &mut Lender) -> u64 {
     let mut c = Check { lender, passed: 0 };
     let cache = cached(&mut c);
@@ -190,12 +263,9 @@ pub fn run(lender: &mut Lender) -> u64 {
     c.txt("v=STSv1; id=a ", (42, 0, 0));
     c.txt("v=STSv1; id=a \t; ", (6, 12, 1));
 
-    c.policy("version: STSv1\nmode: enforce\nmx: *.example.com\nmax_age: 604800\n", (7, 1, 604_800, 1));
-    c.policy("version: STSv1\r\nmode: none\r\nmax_age: 9999999999", (7, 3, 31_557_600, 0));
-    c.policy("version: STSv1\nmode: testing\nmax_age: 1\n", (52, 0, 0, 0));
-    c.policy("version: STSv1\nmode: none\nmax_age: 1\r", (51, 0, 0, 0));
-    c.policy("version: STSv1\n\nmode: none\nmax_age: 1\n", (51, 0, 0, 0));
-    c.policy("", (51, 0, 0, 0));
+    policies(&mut c);
+    policies_that_offend(&mut c);
+    policies_of_many_lines(&mut c);
 
     let with = |base: &HostCall, change: &dyn Fn(&mut HostCall)| {
         let mut call = base.clone();
@@ -227,6 +297,15 @@ pub fn run(lender: &mut Lender) -> u64 {
     c.host("*.example.com, bare", &policy("*.example.com", "example.com", 605_799), (23, 0));
     c.host("*.example.com, two labels", &policy("*.example.com", "a.b.example.com", 605_799), (23, 0));
     c.host("stale", &policy("*.example.com", "a.b.example.com", 605_800), (10, 1));
+    // "53 to 57 stand wherever 51 stood": between 61 and 64, also for a stale policy.
+    for (number, line) in [(53, ""), CONTENT[0], CONTENT[1], CONTENT[2], CONTENT[3]] {
+        let offending = with(&policy("*.example.com", "mail.example.com", 700_000), &|c| {
+            c.policy = [line.as_bytes(), b"\n", &c.policy].concat();
+            c.tlsa[0].lengths = vec![0];
+        });
+        c.host(line, &offending, (number, 0));
+        c.host(line, &with(&offending, &|c| c.host.push(b'.')), (61, 0));
+    }
     // "record `3 1 1` with the leaf's key digest, live enforce policy with a pattern for the host, no DNS-ID: 27."
     let both = with(&policy("*.example.com", "mail.example.com", 605_799), &|c| {
         c.tlsa[0] = one_record(&[&[3, 1, 1][..], &[4; 32]].concat());

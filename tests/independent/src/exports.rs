@@ -2,20 +2,13 @@
 //! They are for the fuzz targets and the benchmark, which link this package's archive beside the library's.
 
 use crate::cache::{self, Entry, LookupAnswer};
-use crate::rules::{self, HostCall, TlsaAnswer};
+use crate::rules::{self, HostCall, PolicyAnswer, TlsaAnswer};
 
 #[repr(C)]
 pub struct Txt {
     pub number: u64,
     pub id_start: u64,
     pub id_length: u64,
-}
-#[repr(C)]
-pub struct Policy {
-    pub number: u64,
-    pub mode: u64,
-    pub lifetime: u64,
-    pub mx_count: u64,
 }
 #[repr(C)]
 pub struct Host {
@@ -74,9 +67,8 @@ pub unsafe extern "C" fn independent_read_txt(
 /// # Safety
 /// The slice is valid.
 #[no_mangle]
-pub unsafe extern "C" fn independent_read_policy(body: *const u8, body_length: usize) -> Policy {
-    let (number, mode, lifetime, mx_count) = rules::read_policy(lent(body, body_length));
-    Policy { number, mode, lifetime, mx_count }
+pub unsafe extern "C" fn independent_read_policy(body: *const u8, body_length: usize) -> PolicyAnswer {
+    rules::read_policy(lent(body, body_length))
 }
 
 /// # Safety

@@ -13,7 +13,7 @@ use std::collections::BTreeMap;
 use std::fmt::Debug;
 use std::time::Instant;
 
-const STORE_ANSWERS: [u64; 10] = [15, 50, 51, 52, 60, 62, 70, 71, 74, 80];
+const STORE_ANSWERS: [u64; 14] = [15, 50, 52, 53, 54, 55, 56, 57, 60, 62, 70, 71, 74, 80];
 const LOOKUP_ANSWERS: [u64; 5] = [15, 60, 62, 72, 74];
 const WAYS: [&str; 6] =
     ["a live own entry", "a stale own entry", "an empty entry", "a stale entry", "72 by a stale own entry", "72 by no entry"];

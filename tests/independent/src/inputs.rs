@@ -556,10 +556,112 @@ fn policy_body(r: &mut Random, patterns: &[Vec<u8>], mode: &[u8], age: &[u8], cl
                 let piece: &[u8] = *r.pick(&[&b"\r"[..], b"\n", b"\r\n", b"\r\r\n", b" ", b"\t", b":", b"\n ", b"\xef\xbb\xbf"]);
                 body.splice(at..at, piece.iter().copied());
             }
+            8..=15 => {
+                let faults = *r.pick(&[1, 1, 2, 3]);
+                (0..faults).for_each(|_| offend(r, &mut body));
+            }
             _ => {}
         }
     }
     body
+}
+
+/// Values of a line's form that the first line of the name, or every one for mx, may not have.
+const BAD_VALUES: [(&[u8], &[&[u8]]); 4] = [
+    (b"version", &[b"STSv2", b"stsv1", b"STSv1 x", b"STSv11", b"STSv", b"STSv1;", b"STSv1\xc2\xa0"]),
+    (b"mode", &[b"Enforce", b"nonee", b"non", b"testin", b"enforced", b"none none", b"report", b"none\xe2\x80\x8b"]),
+    (b"max_age", &[b"00000604800", b"10000000000", b"1 2", b"-1", b"+1", b"1a", b"0x10", b"1:", b"/", b"604,800"]),
+    (b"mx", &[b"a..b", b".", b"*", b"*.", b"*.*.a", b"a.b.", b"-a", b"a b", b"a:25", b"_a.b", b"a,b", b"\xc3\xa9.example"]),
+];
+
+/// Where the lines of a body begin.
+fn line_starts(body: &[u8]) -> Vec<usize> {
+    let later = (1..body.len()).filter(|&i| body[i - 1] == b'\n');
+    [0].into_iter().chain(later).collect()
+}
+
+/// Where the first line begins, the last, or any.
+fn some_line(r: &mut Random, body: &[u8]) -> usize {
+    let starts = line_starts(body);
+    match r.below(3) {
+        0 => 0,
+        1 => starts[starts.len() - 1],
+        _ => *r.pick(&starts),
+    }
+}
+
+fn line_end(r: &mut Random) -> &'static [u8] {
+    if r.once_in(2) { b"\n" } else { b"\r\n" }
+}
+
+/// A further line before some line, or after the last, where it may have no end.
+fn put_line(r: &mut Random, body: &mut Vec<u8>, line: &[u8]) {
+    if !r.once_in(3) {
+        let at = some_line(r, body);
+        body.splice(at..at, [line, line_end(r)].concat());
+        return;
+    }
+    if !body.is_empty() && !body.ends_with(b"\n") {
+        body.extend(line_end(r));
+    }
+    body.extend(line);
+    if r.once_in(2) {
+        body.extend(line_end(r));
+    }
+}
+
+/// Some line loses its form, whatever it says; a few keep it.
+fn break_line(r: &mut Random, body: &mut Vec<u8>) {
+    let start = some_line(r, body);
+    let end = start + body[start..].iter().take_while(|&b| !b"\r\n".contains(b)).count();
+    let colon = (start + body[start..].iter().take_while(|&&b| b != b':').count()).min(end);
+    let value = (colon + 1).min(end);
+    let (from, to, piece): (usize, usize, &[u8]) = match r.below(8) {
+        0 => (start, start, line_end(r)),
+        1 => (colon, value, b""),
+        2 => (value, end, b""),
+        3 => {
+            let at = r.between(start, end);
+            (at, at, b"\r")
+        }
+        4 => (colon, colon, *r.pick(&[b" ", b"\t"])),
+        5 => (start, start, *r.pick(&[&b" "[..], b"-", b":", b"_", b"\xef\xbb\xbf"])),
+        6 => {
+            let at = r.between(value, end);
+            (at, at, *r.pick(&[&b"a\tb"[..], b"\0", b"\x1f", b"\x7f", b"\x80"]))
+        }
+        _ => (end, end, *r.pick(UTF8_EDGES)),
+    };
+    body.splice(from..to, piece.iter().copied());
+}
+
+/// Every line of this name gets another, which no rule knows.
+fn rename(body: &mut [u8], name: &[u8]) {
+    for start in line_starts(body) {
+        if body[start..].starts_with(name) && body[start + name.len()..].starts_with(b":") {
+            body[start] = b'x';
+        }
+    }
+}
+
+/// A fault of 53 to 57, in the first line, the last or any. Where the field is there already, it is mostly renamed, so that the
+/// line that offends is the first of its name.
+pub fn offend(r: &mut Random, body: &mut Vec<u8>) {
+    let Some(&(name, values)) = BAD_VALUES.get(r.below(5)) else { return break_line(r, body) };
+    if !r.once_in(3) {
+        rename(body, name);
+    }
+    let line = [name, b":", &blanks(r)[..], *r.pick(values), &blanks(r)].concat();
+    put_line(r, body, &line);
+}
+
+/// Over 1,000 further lines before some line, all of them good.
+fn lengthen(r: &mut Random, body: &mut Vec<u8>) {
+    let pieces: [&[u8]; 5] = [b"x:y\n", b"x: y\r\n", b"mx:a.b\n", b"note: \xc3\xa9\r\n", b"mx: *.c \n"];
+    let count = *r.pick(&[1000, 1023, 1024, 1025, 4096, 6000]);
+    let lines: Vec<&[u8]> = (0..count).map(|_| *r.pick(&pieces)).collect();
+    let at = some_line(r, body);
+    body.splice(at..at, lines.concat());
 }
 
 /// Padded with an extension line (or several) to an exact size.
@@ -605,6 +707,10 @@ pub fn policy(r: &mut Random) -> Vec<u8> {
         25..=35 => {
             let n = r.below(200);
             body = (0..n).map(|_| *r.pick(b"mx:a.\r\n \tmode: none\n")).collect();
+        }
+        36..=39 => {
+            offend(r, &mut body);
+            lengthen(r, &mut body);
         }
         _ => {}
     }

@@ -1,6 +1,7 @@
 //! Every length from 0 to 72 of what the library may look at several bytes at a time: the value of a policy's line and of a TXT
 //! field, names, and certificates and key infos compared whole. Each is asked as it is right and with another byte, or a few, at
-//! each place. An input is lent on every side (`Place::each`), and the answer must be the same on all of them.
+//! each place. Then the lines of a policy that offend, at each place among others and after lines of each length. An input is
+//! lent on every side (`Place::each`), and the answer must be the same on all of them.
 
 use crate::boundary::{self, Lender, Place};
 use crate::examples::{one_record, plain};
@@ -56,7 +57,7 @@ impl Check<'_> {
             || arguments::policy(body),
             || rules::read_policy(body),
             |lender, place| lender.read_policy(body, place),
-            |answer| answer.0,
+            |answer| answer.number,
         );
     }
 
@@ -228,6 +229,60 @@ fn policy_names(c: &mut Check) {
         near(&line.as_bytes()[..colon], &[0x01, 0x02, 0x20, 0x80], |name| {
             c.policy(&[name, &line.as_bytes()[colon..], rest.as_bytes()].concat());
         });
+    }
+}
+
+/// Lines that offend, whatever stands before them, or as the first of their name. Some have a fault of content too, which counts
+/// after that of their form.
+#[rustfmt::skip]
+const OFFENDING: [&[u8]; 18] = [
+    b"", b"mode", b":none", b"mode:", b"mode: \t", b"mode :none", b" mode:none", b"-mode:none", b"mode:no\tne", b"mode:none\r",
+    b"version:STSv2\x7f", b"max_age:1x\xc3", b"mx:a..b\0", b"mx\rmx:a", b"version:STSv2", b"mode: Enforce", b"max_age:\t1x ",
+    b"mx:a..b",
+];
+
+/// The lines with these ends in turn, and the last one with this end.
+fn joined(lines: &[&[u8]], ends: &[&[u8]], last: &[u8]) -> Vec<u8> {
+    let mut body = Vec::new();
+    for (i, line) in lines.iter().enumerate() {
+        body.extend(*line);
+        body.extend(if i + 1 == lines.len() { last } else { ends[i % ends.len()] });
+    }
+    body
+}
+
+/// A line that offends at each place, before the line there or instead of it, and with a second one somewhere after it.
+fn policy_faults(c: &mut Check) {
+    const GOOD: [&[u8]; 5] = [b"version: STSv1", b"mode:none", b"max_age: 86400 ", b"mx:*.a", b"x: y"];
+    let ends: [&[&[u8]]; 3] = [&[b"\n"], &[b"\r\n"], &[b"\r\n", b"\n"]];
+    for (at, line) in (0..=GOOD.len()).flat_map(|at| OFFENDING.map(|line| (at, line))) {
+        let before = [&GOOD[..at], &[line], &GOOD[at..]].concat();
+        let instead = [&GOOD[..at], &[line], &GOOD[(at + 1).min(GOOD.len())..]].concat();
+        for (ends, last) in ends.iter().flat_map(|ends| [&b""[..], b"\n", b"\r\n", b"\r"].map(|last| (ends, last))) {
+            c.policy(&joined(&before, ends, last));
+            c.policy(&joined(&instead, ends, last));
+        }
+        for (later, other) in (at + 1..=before.len()).flat_map(|later| OFFENDING.map(|other| (later, other))) {
+            c.policy(&joined(&[&before[..later], &[other], &before[later..]].concat(), ends[2], b"\n"));
+        }
+    }
+}
+
+/// A line that offends after one of each length, and after up to 16,383 lines: more leave no room for one.
+fn policy_offsets(c: &mut Check) {
+    for (line, end) in OFFENDING.iter().flat_map(|line| [(line, &b"\n"[..]), (line, b"\r\n")]) {
+        for n in 0..=LONGEST {
+            let before = [b"x:y", &letters(n)[..]].concat();
+            c.policy(&joined(&[&before, line, b"x:y"], &[end], end));
+        }
+    }
+    for n in [1, 2, 255, 256, 257, 999, 1000, 1001, 4095, 4096, 8191, 16_382, 16_383] {
+        let before = b"a:b\n".repeat(n);
+        for line in OFFENDING.iter().filter(|line| before.len() + line.len() <= 65_536) {
+            c.policy(&[&before, *line].concat());
+        }
+        c.policy(&[&before, &b"\n"[..]].concat());
+        c.policy(&[&before, &b"a:b\n"[..]].concat());
     }
 }
 
@@ -412,14 +467,16 @@ pub fn run(lender: &mut Lender, only: Option<u64>) -> u64 {
         println!("lengths 0 to {LONGEST}:");
     }
     let all = std::panic::catch_unwind(AssertUnwindSafe(|| {
-        c.part("policy values", &[7, 51], policy_values);
-        c.part("policy values that are known", &[7, 51, 52], policy_known_values);
-        c.part("policy names", &[7, 51, 52], policy_names);
+        c.part("policy values", &[7, 53, 57], policy_values);
+        c.part("policy values that are known", &[7, 52, 53, 54, 55, 56, 57], policy_known_values);
+        c.part("policy names", &[7, 52, 53], policy_names);
+        c.part("policy faults", &[7, 53, 54, 55, 56, 57], policy_faults);
+        c.part("policy faults further on", &[52, 53, 54, 55, 56, 57], policy_offsets);
         c.part("TXT values", &[6, 42], txt_values);
         c.part("TXT names", &[6, 42], txt_names);
         c.part("TXT tags", &[6, 40, 42], txt_tags);
-        c.part("names", &[7, 13, 51, 60, 61], names);
-        c.part("names compared", &[3, 4, 23, 26, 27, 51, 61], compared_names);
+        c.part("names", &[7, 13, 53, 57, 60, 61], names);
+        c.part("names compared", &[3, 4, 23, 26, 27, 53, 57, 61], compared_names);
         c.part("certificates compared", &[3, 26], compared_certificates);
         c.part("digests compared", &[3, 26], compared_digests);
     }));

@@ -10,12 +10,14 @@ mod caches;
 mod claims;
 mod completions;
 mod examples;
+mod faults;
 mod histories;
 mod inputs;
 mod lengths;
 mod random;
 
 use boundary::{Lender, Place};
+use faults::Faults;
 use independent_rules::rules;
 use random::Random;
 use std::collections::BTreeMap;
@@ -24,6 +26,14 @@ use std::panic::AssertUnwindSafe;
 use std::time::Instant;
 
 const CALLS: [&str; 4] = ["txt", "policy", "host", "message"];
+const ANSWERS: [&[u64]; 4] = [
+    &[6, 40, 41, 42, 43, 44],
+    &[7, 50, 52, 53, 54, 55, 56, 57],
+    &[1, 2, 3, 4, 5, 10, 11, 12, 13, 14, 20, 21, 22, 23, 24, 25, 26, 27, 50, 52, 53, 54, 55, 56, 57, 60, 61, 62, 64, 65, 66, 67],
+    &[1, 2, 3, 4, 5, 8, 30, 31, 63, 67],
+];
+/// Of so many cases each answer of a call has to come, and each fault of a policy in every place.
+const MANY: u64 = 100_000;
 const THREADS: u64 = 2;
 
 /// What a case ended in: the library's answer number, whether the two agree, and what to print of it.
@@ -38,7 +48,7 @@ fn outcome<T: Debug + PartialEq + 'static>(number: u64, ours: T, theirs: T, argu
     Outcome { number, same, text: Box::new(move || format!("{}\n  rules   {ours:?}\n  library {theirs:?}", arguments())) }
 }
 
-fn run_case(lender: &mut Lender, seed: u64, call: usize, case: u64) -> Outcome {
+fn run_case(lender: &mut Lender, seed: u64, call: usize, case: u64, seen: &mut Seen) -> Outcome {
     let mut r = Random::new(seed, call as u64, case);
     let place = Place::random(&mut r);
     match call {
@@ -54,7 +64,8 @@ fn run_case(lender: &mut Lender, seed: u64, call: usize, case: u64) -> Outcome {
             let body = inputs::policy(&mut r);
             let ours = rules::read_policy(&body);
             let theirs = lender.read_policy(&body, place);
-            outcome(theirs.0, ours, theirs, move || arguments::policy(&body))
+            seen.faults.count(&body, &ours);
+            outcome(theirs.number, ours, theirs, move || arguments::policy(&body))
         }
         2 => {
             let c = inputs::host(&mut r);
@@ -73,16 +84,41 @@ fn run_case(lender: &mut Lender, seed: u64, call: usize, case: u64) -> Outcome {
 
 type Table = BTreeMap<u64, u64>;
 
+/// How often each answer number of a call came, and where the lines that offend stood.
+#[derive(Default)]
+struct Seen {
+    numbers: Table,
+    faults: Faults,
+}
+
+impl Seen {
+    /// Prints them. What never came was not tested; of a few cases that is no failure.
+    fn report(&self, call: usize, cases: u64) {
+        for (number, count) in &self.numbers {
+            println!("  answer {number:2}: {count}");
+        }
+        let mut missing = ANSWERS[call].iter().find(|n| !self.numbers.contains_key(n)).map(|n| n.to_string());
+        if CALLS[call] == "policy" {
+            self.faults.report();
+            missing = missing.or(self.faults.missing());
+        }
+        if let Some(missing) = missing.filter(|_| cases >= MANY) {
+            println!("FAILED: no case gave {missing}");
+            std::process::exit(1);
+        }
+    }
+}
+
 fn report(seed: u64, call: usize, case: u64, o: &Outcome) {
     println!("seed {seed} call {} case {case}", CALLS[call]);
     println!("{}", (o.text)());
 }
 
 /// The cases of one call; a difference ends the program.
-fn run(lender: &mut Lender, seed: u64, call: usize, cases: std::ops::Range<u64>, table: &mut Table) {
+fn run(lender: &mut Lender, seed: u64, call: usize, cases: std::ops::Range<u64>, seen: &mut Seen) {
     for case in cases {
         boundary::CURRENT.with(|c| c.set((seed, CALLS[call], case)));
-        let o = std::panic::catch_unwind(AssertUnwindSafe(|| run_case(lender, seed, call, case))).unwrap_or_else(|_| {
+        let o = std::panic::catch_unwind(AssertUnwindSafe(|| run_case(lender, seed, call, case, seen))).unwrap_or_else(|_| {
             println!("FAILED: seed {seed} call {} case {case}", CALLS[call]);
             std::process::exit(1)
         });
@@ -91,7 +127,7 @@ fn run(lender: &mut Lender, seed: u64, call: usize, cases: std::ops::Range<u64>,
             report(seed, call, case, &o);
             std::process::exit(1);
         }
-        *table.entry(o.number).or_insert(0) += 1;
+        *seen.numbers.entry(o.number).or_insert(0) += 1;
     }
 }
 
@@ -123,21 +159,18 @@ fn main() {
             return;
         }
         let call = CALLS.iter().position(|c| *c == call).expect("a call: txt, policy, host, message, lengths, cache or histories");
-        report(seed, call, case, &run_case(&mut lender, seed, call, case));
+        report(seed, call, case, &run_case(&mut lender, seed, call, case, &mut Seen::default()));
         return;
     }
     let mut passed = examples::run(&mut lender);
     println!("{passed} fixed examples passed");
     passed += lengths::run(&mut lender, None);
     for (call, title) in CALLS.iter().enumerate() {
-        let begun = Instant::now();
-        let mut table = Table::new();
-        run(&mut lender, seed, call, 0..cases, &mut table);
+        let (begun, mut seen) = (Instant::now(), Seen::default());
+        run(&mut lender, seed, call, 0..cases, &mut seen);
         passed += cases;
         println!("{title}: {cases} cases in {:.1} s", begun.elapsed().as_secs_f64());
-        for (number, count) in &table {
-            println!("  answer {number:2}: {count}");
-        }
+        seen.report(call, cases);
     }
     // A cache's case takes a hundred times as long as another. So few that an answer never comes would test nothing.
     passed += histories::run(&mut lender, seed, (cases / 25).max(5_000), (cases / 1_000).max(400));
@@ -169,7 +202,7 @@ fn main() {
                 let mut lender = Lender::new();
                 for block in 0..each / 100 {
                     for call in 0..CALLS.len() {
-                        run(&mut lender, seed.wrapping_add(t), call, block * 100..(block + 1) * 100, &mut Table::new());
+                        run(&mut lender, seed.wrapping_add(t), call, block * 100..(block + 1) * 100, &mut Seen::default());
                     }
                     histories::run_one(&mut lender, seed.wrapping_add(t), block);
                 }

@@ -1,14 +1,26 @@
-//! The rules of document 01 ("What is being built, with exact rules"), written a second time and independently of the
-//! library: plain safe Rust over whole values, with no thought for speed. Comments quote document 01; "reading n" is the
-//! list of readings in docs/DECISIONS.md.
+//! The rules of document 01 ("What is being built, with exact rules"), and what document 02's No. 2 ("Say what is wrong with a
+//! policy") makes of them, written a second time and independently of the library: plain safe Rust over whole values, with no
+//! thought for speed. Comments quote document 01, or 02 where they name it; "reading n" is the list of readings in
+//! docs/DECISIONS.md.
 
 use std::ops::Deref;
 
 /// The answers, as (number, other fields).
 pub type TxtAnswer = (u64, u64, u64);
-pub type PolicyAnswer = (u64, u64, u64, u64);
 pub type HostAnswer = (u64, u64);
 pub type MessageAnswer = (u64, u64);
+
+/// `line` and `offset` are those of the first line that offends, under 53 to 57; what an answer doesn't speak of is zero.
+#[repr(C)]
+#[derive(Clone, Copy, PartialEq, Debug, Default)]
+pub struct PolicyAnswer {
+    pub number: u64,
+    pub mode: u64,
+    pub lifetime: u64,
+    pub mx_count: u64,
+    pub line: u64,
+    pub offset: u64,
+}
 
 /// "Lists of numbers are bytes, four each, high first"; the flag says that there are left-over bytes.
 fn numbers(list: &[u8]) -> (Vec<u64>, bool) {
@@ -205,67 +217,60 @@ struct Policy<'a> {
 
 pub fn read_policy(body: &[u8]) -> PolicyAnswer {
     match policy(body) {
-        Ok(p) => (7, p.mode, p.lifetime, p.patterns.len() as u64),
-        Err(number) => (number, 0, 0, 0),
+        Ok(Policy { mode, lifetime, patterns }) => {
+            PolicyAnswer { number: 7, mode, lifetime, mx_count: patterns.len() as u64, ..Default::default() }
+        }
+        Err(refusal) => refusal,
     }
 }
 
-/// "Order: 50, 51, 52."
-fn policy(body: &[u8]) -> Result<Policy<'_>, u64> {
+/// "Order: 50, 51, 52." Document 02: "53 to 57 stand wherever 51 stood; the set of accepted policies stays the same, and 52 still
+/// comes after them."
+fn policy(body: &[u8]) -> Result<Policy<'_>, PolicyAnswer> {
+    let refusal = |number| PolicyAnswer { number, ..Default::default() };
     if body.len() > 65_536 {
-        return Err(50);
+        return Err(refusal(50));
     }
-    let fields = policy_fields(body).ok_or(51u64)?;
-    let first = |wanted: &str| fields.iter().find(|(name, _)| *name == wanted.as_bytes()).map(|(_, value)| *value);
-    let (version, mode, max_age) = (first("version"), first("mode"), first("max_age"));
-    // "The first `version` is `STSv1`; the first `mode` is ...; the first `max_age` is 1 to 10 digits; every `mx` is a name or
-    // `*.` and a name. Otherwise 51."
-    if version.map_or(false, |v| v != b"STSv1") {
-        return Err(51);
+    let lines = policy_lines(body);
+    let fields: Vec<Option<Field>> = lines.iter().map(|(_, line)| policy_field(line)).collect();
+    if let Some((i, number)) = first_offending(&fields) {
+        // "the first line that offends, counted from 1, and the byte offset where it begins"
+        return Err(PolicyAnswer { line: i as u64 + 1, offset: lines[i].0 as u64, ..refusal(number) });
     }
-    let mode = match mode {
-        None => None,
-        Some(b"enforce") => Some(1),
-        Some(b"testing") => Some(2),
-        Some(b"none") => Some(3),
-        Some(_) => return Err(51),
-    };
-    let max_age = match max_age {
-        None => None,
-        Some(digits) if digits.len() <= 10 && digits.iter().all(|b| b.is_ascii_digit()) => {
-            Some(digits.iter().fold(0u64, |n, b| n * 10 + (b - b'0') as u64))
-        }
-        Some(_) => return Err(51),
-    };
-    let patterns: Vec<&[u8]> = fields.iter().filter(|(name, _)| *name == b"mx").map(|(_, value)| *value).collect();
-    if !patterns.iter().all(|p| is_pattern(p)) {
-        return Err(51);
-    }
+    let first = |wanted| first_named(&fields, wanted).map(|(_, value)| value);
+    let (version, mode, max_age) = (first("version"), first("mode").and_then(mode_of), first("max_age").and_then(seconds_of));
+    let patterns: Vec<&[u8]> = fields.iter().flatten().filter(|(name, _)| *name == b"mx").map(|(_, value)| *value).collect();
     // "52: version, mode or max_age absent, or no `mx` unless the mode is none."
-    let (Some(_), Some(mode), Some(max_age)) = (version, mode, max_age) else { return Err(52) };
+    let (Some(_), Some(mode), Some(max_age)) = (version, mode, max_age) else { return Err(refusal(52)) };
     if patterns.is_empty() && mode != 3 {
-        return Err(52);
+        return Err(refusal(52));
     }
     // "A max_age above 31,557,600 counts as 31,557,600 (house)."
     Ok(Policy { mode, lifetime: max_age.min(31_557_600), patterns })
 }
 
-/// "Lines end in LF or CRLF, the last end optional. Each line: name, `:`, blanks, value, blanks."
-fn policy_fields(body: &[u8]) -> Option<Vec<(&[u8], &[u8])>> {
-    let mut lines: Vec<&[u8]> = body.split(|&b| b == b'\n').collect();
-    // What stands after the last LF is a line without an end, or nothing.
-    let open_line = lines.pop()?;
-    for line in lines.iter_mut() {
-        *line = line.strip_suffix(b"\r").unwrap_or(line);
+/// "Lines end in LF or CRLF, the last end optional." The offset where each line begins, and the line without its end.
+fn policy_lines(body: &[u8]) -> Vec<(usize, &[u8])> {
+    // Document 02: "A body of zero bytes is 53 at line 1." It is one line, which is empty.
+    if body.is_empty() {
+        return vec![(0, body)];
     }
-    // "a body of zero bytes" is malformed: then there is no LF and the open line is the empty line.
-    if lines.is_empty() || !open_line.is_empty() {
-        lines.push(open_line);
+    let mut lines = Vec::new();
+    let mut offset = 0;
+    for whole in body.split_inclusive(|&b| b == b'\n') {
+        // A CR belongs to an end only before an LF.
+        let line = whole.strip_suffix(b"\n").map_or(whole, |line| line.strip_suffix(b"\r").unwrap_or(line));
+        lines.push((offset, line));
+        offset += whole.len();
     }
-    lines.into_iter().map(policy_field).collect()
+    lines
 }
 
-fn policy_field(line: &[u8]) -> Option<(&[u8], &[u8])> {
+/// Name and value.
+type Field<'a> = (&'a [u8], &'a [u8]);
+
+/// "Each line: name, `:`, blanks, value, blanks." None is a line of another form.
+fn policy_field(line: &[u8]) -> Option<Field<'_>> {
     let colon = line.iter().position(|&b| b == b':')?;
     let name = &line[..colon];
     let value = trim_blanks(&line[colon + 1..]);
@@ -274,6 +279,46 @@ fn policy_field(line: &[u8]) -> Option<(&[u8], &[u8])> {
     let text = std::str::from_utf8(value).ok()?;
     let good = !text.is_empty() && text.chars().all(|c| !c.is_ascii() || (' '..='~').contains(&c));
     (is_field_name(name) && good).then_some((name, value))
+}
+
+/// The first line of this name, counted from 0, and its value. "Names of fields are case-sensitive."
+fn first_named<'a>(fields: &[Option<Field<'a>>], wanted: &str) -> Option<(usize, &'a [u8])> {
+    let i = fields.iter().position(|field| field.is_some_and(|(name, _)| name == wanted.as_bytes()))?;
+    fields[i].map(|(_, value)| (i, value))
+}
+
+/// Document 02: "53 line form, 54 bad version, 55 bad mode, 56 bad max_age, 57 bad mx." For each of the five the first line that
+/// has it is looked for; the first of these offends. Its place, counted from 0, and its number. "within a line, form comes before
+/// content": what is not of a line's form has neither name nor value here.
+fn first_offending(fields: &[Option<Field>]) -> Option<(usize, u64)> {
+    let first_unless = |wanted: &str, is_good: &dyn Fn(&[u8]) -> bool| {
+        first_named(fields, wanted).filter(|(_, value)| !is_good(value)).map(|(i, _)| i)
+    };
+    // "The first `version` is `STSv1`; the first `mode` is `enforce`, `testing` or `none`; the first `max_age` is 1 to 10 digits;
+    // every `mx` is a name or `*.` and a name."
+    let faults = [
+        (53, fields.iter().position(|field| field.is_none())),
+        (54, first_unless("version", &|value| value == b"STSv1")),
+        (55, first_unless("mode", &|value| mode_of(value).is_some())),
+        (56, first_unless("max_age", &|value| seconds_of(value).is_some())),
+        (57, fields.iter().position(|field| matches!(field, Some((b"mx", value)) if !is_pattern(value)))),
+    ];
+    faults.into_iter().filter_map(|(number, place)| Some((place?, number))).min()
+}
+
+fn mode_of(value: &[u8]) -> Option<u64> {
+    match value {
+        b"enforce" => Some(1),
+        b"testing" => Some(2),
+        b"none" => Some(3),
+        _ => None,
+    }
+}
+
+/// "1 to 10 digits"
+fn seconds_of(value: &[u8]) -> Option<u64> {
+    let digits = (1..=10).contains(&value.len()) && value.iter().all(|b| b.is_ascii_digit());
+    digits.then(|| value.iter().fold(0, |n, b| n * 10 + (b - b'0') as u64))
 }
 
 // -------------------------------------------------------------------------------------------------------------------- host
@@ -364,7 +409,8 @@ pub fn judge_host<B: Deref<Target = [u8]>>(call: &HostCall<B>) -> HostAnswer {
 
 /// A verdict or question with the count, or the number of a refusal.
 fn judged<B: Deref<Target = [u8]>>(call: &HostCall<B>) -> Result<HostAnswer, u64> {
-    // "Argument checks come first: 67, 62, 60, 61 (...), 50 to 52, 64, 65 for everything supplied"
+    // "Argument checks come first: 67, 62, 60, 61 (...), 50 to 52, 64, 65 for everything supplied"; document 02 puts 53 to 57
+    // where 51 stood.
     if !codes_are_choices(call) {
         return Err(67);
     }
@@ -383,7 +429,7 @@ fn judged<B: Deref<Target = [u8]>>(call: &HostCall<B>) -> Result<HostAnswer, u64
     if matches!(call.address, 3 | 4 | 5) && !is_name(&call.expanded) {
         return Err(61);
     }
-    let policy = if call.policy_given == 1 { Some(policy(&call.policy)?) } else { None };
+    let policy = if call.policy_given == 1 { Some(policy(&call.policy).map_err(|refusal| refusal.number)?) } else { None };
     let mut answers = Vec::new();
     for given in &call.tlsa[..call.tlsa_answers as usize] {
         answers.push(tlsa_answer(given).ok_or(64u64)?);

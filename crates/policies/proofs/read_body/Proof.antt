@@ -15,17 +15,17 @@ returns c = search body-laws
 check-requires : tie.Need-check-requires
 check-requires c κs = search body-laws
 
-enum-told : tie.Need-enum-told
-enum-told c = search body-laws
+enum-known-read : tie.Need-enum-known-read
+enum-known-read c = search body-laws
 
-refusal-requires-2 : tie.Need-refusal-requires-2
-refusal-requires-2 c κs = search body-laws
+fault-refusal-requires : tie.Need-fault-refusal-requires
+fault-refusal-requires c κs = search body-laws
 
 for-host-requires-2 : tie.Need-for-host-requires-2
 for-host-requires-2 c κs = search body-laws
 
-enum-known-read : tie.Need-enum-known-read
-enum-known-read c = search body-laws
+enum-known-read-2 : tie.Need-enum-known-read-2
+enum-known-read-2 c = search body-laws
 
 answer-requires : tie.Need-answer-requires
 answer-requires c κs = search body-laws
@@ -47,10 +47,10 @@ read-body-spec =
     for-host-requires
     returns
     check-requires
-    enum-told
-    refusal-requires-2
-    for-host-requires-2
     enum-known-read
+    fault-refusal-requires
+    for-host-requires-2
+    enum-known-read-2
     answer-requires
     for-host-requires-3
     returns-2
