@@ -81,9 +81,9 @@ module _ (cause : Cause) where
   unfolding causeNumber
   number-mx e = rw e
 
-pub fault-refused : (f : Fault) (number : ℕ) → number ≡ causeNumber (f .cause) → refusedAt number (f .line) (f .offset) ≡ faultAnswer f
+pub fault-refused : (f : Fault) (number : ℕ) (a : PolicyAnswer) → number ≡ causeNumber (f .cause) → a ≡ refusedAt number (f .line) (f .offset) → a ≡ faultAnswer f
 unfolding faultAnswer
-fault-refused f number e = rw e
+fault-refused f number a e k = k ∙ rw e
 
 pub ruleset cause-laws = (number-form, number-version, number-mode, number-max-age, number-mx, fault-refused, needs)
 

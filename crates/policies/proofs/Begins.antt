@@ -10,7 +10,7 @@ use lib.Seq.{take-add, length-take-le}
 use borrow.Author.Tests.{eqb-true, ltb-true, ltb-false}
 use Rattle.lists.specs.Split.{indexOf, toFirst}
 use Rattle.policies.specs.Lines.{LF, CR, lines, lineStart}
-use Rattle.policies.specs.Diagnosis.{countLF, areLines, Begins}
+use Rattle.policies.specs.Diagnosis.{countLF, wholeLines, Begins}
 use Rattle.policies.specs.Reader.{lineEnd}
 use Rattle.policies.proofs.Body.{lines-there, lines-at}
 
@@ -26,8 +26,8 @@ first-count x [] h = absurd (omega arith)
 first-count x (l ∷ ls) h = refl
 
 -- whole lines, and what follows them: their lines, one after another
-lines-cut : (p r : List ℕ) → areLines p ≡ true → lines (p ++ r) ≡ lines p ++ lines r
-unfolding lines areLines
+lines-cut : (p r : List ℕ) → wholeLines p ≡ true → lines (p ++ r) ≡ lines p ++ lines r
+unfolding lines wholeLines
 lines-cut [] r h = refl
 lines-cut (x ∷ []) r h = let e : x ≡ LF = eqb-true x LF h in rw e
 lines-cut (x ∷ y ∷ p) r h = go (lines-cut (y ∷ p) r h) (eqb x LF) (eqb x CR && eqb y LF)
@@ -38,8 +38,8 @@ lines-cut (x ∷ y ∷ p) r h = go (lines-cut (y ∷ p) r h) (eqb x LF) (eqb x C
     go ih false false = rw ih (first-after x (lines (y ∷ p)) (lines r) (lines-there y p))
 
 -- whole lines are as many as their LF
-lines-count : (p : List ℕ) → areLines p ≡ true → length (lines p) ≡ countLF p
-unfolding lines areLines countLF
+lines-count : (p : List ℕ) → wholeLines p ≡ true → length (lines p) ≡ countLF p
+unfolding lines wholeLines countLF
 lines-count [] h = refl
 lines-count (x ∷ []) h = let e : x ≡ LF = eqb-true x LF h in rw e
 lines-count (x ∷ y ∷ p) h = go (lines-count (y ∷ p) h) (eqb x LF) (eqb x CR && eqb y LF)
@@ -50,18 +50,18 @@ lines-count (x ∷ y ∷ p) h = go (lines-count (y ∷ p) h) (eqb x LF) (eqb x C
     go ih false false = first-count x (lines (y ∷ p)) (lines-there y p) ∙ ih
 
 -- one byte more before a body: the later lines begin one byte later; an LF is a line more
-start-lf : (s : List ℕ) (n : ℕ) → lineStart (LF ∷ s) (suc n) ≡ suc (lineStart s n)
+lf-shifts : (s : List ℕ) (n : ℕ) → lineStart (LF ∷ s) (suc n) ≡ suc (lineStart s n)
 unfolding lineStart indexOf
-start-lf s zero = refl
-start-lf s (suc n) = rw (start-lf s n) (omega arith)
+lf-shifts s zero = refl
+lf-shifts s (suc n) = rw (lf-shifts s n) (omega arith)
 
-start-other : (x : ℕ) (s : List ℕ) → eqb x LF ≡ false → (n : ℕ) → lineStart (x ∷ s) (suc n) ≡ suc (lineStart s (suc n))
+byte-shifts : (x : ℕ) (s : List ℕ) → eqb x LF ≡ false → (n : ℕ) → lineStart (x ∷ s) (suc n) ≡ suc (lineStart s (suc n))
 unfolding lineStart indexOf
-start-other x s h zero = rw h (omega arith)
-start-other x s h (suc n) = rw (start-other x s h n) (omega arith)
+byte-shifts x s h zero = rw h (omega arith)
+byte-shifts x s h (suc n) = rw (byte-shifts x s h n) (omega arith)
 
-some-lf : (x : ℕ) (p : List ℕ) → areLines (x ∷ p) ≡ true → 1 ≤ countLF (x ∷ p)
-unfolding areLines countLF
+some-lf : (x : ℕ) (p : List ℕ) → wholeLines (x ∷ p) ≡ true → 1 ≤ countLF (x ∷ p)
+unfolding wholeLines countLF
 some-lf x [] h = rw h (omega arith)
 some-lf x (y ∷ p) h = go (some-lf y p h) (eqb x LF)
   where
@@ -70,18 +70,18 @@ some-lf x (y ∷ p) h = go (some-lf y p h) (eqb x LF)
     go ih false = ih
 
 -- after whole lines the next one begins
-start-cut : (p r : List ℕ) → areLines p ≡ true → lineStart (p ++ r) (countLF p) ≡ length p
-unfolding areLines countLF lineStart
+start-cut : (p r : List ℕ) → wholeLines p ≡ true → lineStart (p ++ r) (countLF p) ≡ length p
+unfolding wholeLines countLF lineStart
 start-cut [] r h = refl
-start-cut (x ∷ []) r h = let e : x ≡ LF = eqb-true x LF h in rw e (start-lf r 0)
+start-cut (x ∷ []) r h = let e : x ≡ LF = eqb-true x LF h in rw e (lf-shifts r 0)
 start-cut (x ∷ y ∷ p) r h = go (start-cut (y ∷ p) r h) (some-lf y p h) (eqb x LF) refl
   where
     other : (c : ℕ) → 1 ≤ c → eqb x LF ≡ false → lineStart (y ∷ (p ++ r)) c ≡ length (y ∷ p) → lineStart (x ∷ y ∷ (p ++ r)) c ≡ suc (length (y ∷ p))
     other zero o e ih = absurd (omega arith)
-    other (suc c) o e ih = start-other x (y ∷ (p ++ r)) e c ∙ ap suc ih
+    other (suc c) o e ih = byte-shifts x (y ∷ (p ++ r)) e c ∙ ap suc ih
 
     go : lineStart (y ∷ (p ++ r)) (countLF (y ∷ p)) ≡ length (y ∷ p) → 1 ≤ countLF (y ∷ p) → (t : Bool) → eqb x LF ≡ t → lineStart (x ∷ y ∷ (p ++ r)) (cond t (suc (countLF (y ∷ p))) (countLF (y ∷ p))) ≡ suc (length (y ∷ p))
-    go ih o true e = let k : x ≡ LF = eqb-true x LF e in rw k (start-lf (y ∷ (p ++ r)) (countLF (y ∷ p)) ∙ ap suc ih)
+    go ih o true e = let k : x ≡ LF = eqb-true x LF e in rw k (lf-shifts (y ∷ (p ++ r)) (countLF (y ∷ p)) ∙ ap suc ih)
     go ih o false e = other (countLF (y ∷ p)) o e ih
 
 -- where a line begins, the lines of the body are cut: those before it, and it with those after it
@@ -99,16 +99,16 @@ module _ (s : List ℕ) (n k : ℕ) (b : Begins s n k) where
       ∙ length-take-le k s (omega (arith, b .inside))
 
 -- a line up to its LF is a whole line
-line-whole : (u : List ℕ) → indexOf LF u < length u → areLines (take (suc (indexOf LF u)) u) ≡ true
-unfolding indexOf areLines
+line-whole : (u : List ℕ) → indexOf LF u < length u → wholeLines (take (suc (indexOf LF u)) u) ≡ true
+unfolding indexOf wholeLines
 line-whole [] h = absurd (omega arith)
 line-whole (x ∷ u) h = go (eqb x LF) refl (line-whole u) h
   where
-    front : (m : ℕ) (v : List ℕ) → m < length v → areLines (take (suc m) v) ≡ true → areLines (x ∷ take (suc m) v) ≡ true
+    front : (m : ℕ) (v : List ℕ) → m < length v → wholeLines (take (suc m) v) ≡ true → wholeLines (x ∷ take (suc m) v) ≡ true
     front m [] o e = absurd (omega arith)
     front m (y ∷ v) o e = e
 
-    go : (t : Bool) → eqb x LF ≡ t → (indexOf LF u < length u → areLines (take (suc (indexOf LF u)) u) ≡ true) → cond t 0 (suc (indexOf LF u)) < suc (length u) → areLines (take (suc (cond t 0 (suc (indexOf LF u)))) (x ∷ u)) ≡ true
+    go : (t : Bool) → eqb x LF ≡ t → (indexOf LF u < length u → wholeLines (take (suc (indexOf LF u)) u) ≡ true) → cond t 0 (suc (indexOf LF u)) < suc (length u) → wholeLines (take (suc (cond t 0 (suc (indexOf LF u)))) (x ∷ u)) ≡ true
     go true e ih o = e
     go false e ih o = front (indexOf LF u) u (omega arith) (ih (omega arith))
 
@@ -121,12 +121,12 @@ line-lf (x ∷ u) h = go (eqb x LF) refl (line-lf u) h
     go true e ih o = rw e
     go false e ih o = rw e (ih (omega arith))
 
-whole-append : (a b : List ℕ) → 1 ≤ length b → areLines b ≡ true → areLines (a ++ b) ≡ true
-unfolding areLines
+whole-append : (a b : List ℕ) → 1 ≤ length b → wholeLines b ≡ true → wholeLines (a ++ b) ≡ true
+unfolding wholeLines
 whole-append [] b o h = h
 whole-append (x ∷ a) b o h = go (a ++ b) (omega (arith, length-append a b)) (whole-append a b o h)
   where
-    go : (c : List ℕ) → 1 ≤ length c → areLines c ≡ true → areLines (x ∷ c) ≡ true
+    go : (c : List ℕ) → 1 ≤ length c → wholeLines c ≡ true → wholeLines (x ∷ c) ≡ true
     go [] o e = absurd (omega arith)
     go (y ∷ c) o e = e
 
@@ -141,7 +141,7 @@ lf-append (x ∷ a) b = go (eqb x LF) (lf-append a b)
 
 -- each line of a body begins where `lineStart` says
 first-begins : (s : List ℕ) → 0 < length (lines s) → Begins s 1 0
-unfolding lines areLines countLF
+unfolding lines wholeLines countLF
 first-begins [] h = absurd (omega arith)
 first-begins (x ∷ s) h = record { inside = omega arith; after = refl; counted = refl }
 
@@ -178,8 +178,8 @@ module _ (s : List ℕ) (n k : ℕ) (b : Begins s (n + 1) k) (h : suc n < length
       let e : k + indexOf LF (drop k s) + 1 ≡ k + suc (indexOf LF (drop k s)) = omega arith in
       rw e (take-add k (suc (indexOf LF (drop k s))) s)
 
-  next-begins : Begins s (suc n + 1) (k + i + 1)
-  next-begins =
+  later-begins : Begins s (suc n + 1) (k + i + 1)
+  later-begins =
       record {
         inside = more-bytes;
         after = rw parts (whole-append (take k s) (take (suc (indexOf LF (drop k s))) (drop k s)) (omega (arith, length-take-le (suc (indexOf LF (drop k s))) (drop k s) (omega (arith, ended)))) (line-whole (drop k s) ended));
@@ -189,4 +189,4 @@ module _ (s : List ℕ) (n k : ℕ) (b : Begins s (n + 1) k) (h : suc n < length
 pub line-begins : (s : List ℕ) (n : ℕ) → n < length (lines s) → Begins s (n + 1) (lineStart s n)
 unfolding lineStart i
 line-begins s zero h = first-begins s h
-line-begins s (suc n) h = next-begins s n (lineStart s n) (line-begins s n (omega arith)) h
+line-begins s (suc n) h = later-begins s n (lineStart s n) (line-begins s n (omega arith)) h

@@ -24,7 +24,7 @@ use Rattle.policies.specs.declared.Fault.{Fault}
 use Rattle.policies.specs.declared.PolicyAnswer.{PolicyAnswer}
 use Rattle.policies.specs.Lines.{lines, lineStart}
 use Rattle.policies.specs.Fields.{nameOf, valueOf, isLine, isNamed, anyNamed, isVersion, modeOf, ageOf, isThere, isFirst, causeAfter, patterns}
-use Rattle.policies.specs.Policy.{tooLong, incomplete, policy, longestBody, faultAt, orLater, firstFault, bodyFault, firstMode, firstAge, hasPatterns, complete, completed, judged, readBody, causeNumber, refusedAt, faultAnswer, answerTo, policyAnswer}
+use Rattle.policies.specs.Policy.{tooLong, incomplete, policy, longestBody, faultAt, orLater, firstFault, bodyFault, firstMode, firstAge, hasPatterns, complete, completed, judged, readBody, causeNumber, faultAnswer, answerTo, policyAnswer}
 use Rattle.policies.specs.Diagnosis.{Wrong, form, version, mode, max-age, mx, Sound, one-more, Begins, Offends, Means, line-form, bad-version, bad-mode, bad-max-age, bad-mx, Diagnosis, zero-bytes, offending}
 use Rattle.policies.specs.Diagnosis as D
 use Rattle.policies.proofs.Begins.{begins-cut, begins-count, begins-start, line-begins}
@@ -105,10 +105,10 @@ module _ (earlier : List (List ℕ)) (l : List ℕ) where
       on-form false f e = named C.Form (form f) e
 
   -- nothing is wrong with a line without a cause, and the other way round
-  pub none-wrong : causeAfter earlier l ≡ none → (cause : Cause) → Wrong earlier l cause → ⊥
+  none-wrong : causeAfter earlier l ≡ none → (cause : Cause) → Wrong earlier l cause → ⊥
   none-wrong h cause w = never (cc (wrong-cause cause w))
 
-  pub wrong-none : ((cause : Cause) → Wrong earlier l cause → ⊥) → causeAfter earlier l ≡ none
+  wrong-none : ((cause : Cause) → Wrong earlier l cause → ⊥) → causeAfter earlier l ≡ none
   wrong-none h = go (causeAfter earlier l) refl
     where
       go : (o : Option Cause) → causeAfter earlier l ≡ o → o ≡ none
@@ -244,8 +244,8 @@ number-means C.Mode = bad-mode
 number-means C.MaxAge = bad-max-age
 number-means C.Mx = bad-mx
 
--- What is wrong with a body is the answer to it
-pub diagnosis : (s : List ℕ) (number n k : ℕ) → length s ≤ longestBody → Diagnosis s number n k → policyAnswer s ≡ refusedAt number n k
+-- What is wrong with a body is the answer to it, field by field
+pub diagnosis : (s : List ℕ) (number n k : ℕ) → length s ≤ longestBody → Diagnosis s number n k → policyAnswer s ≡ record { number = number; mode = 0; lifetime = 0; «mx_count» = 0; line = n; offset = k }
 unfolding policyAnswer readBody bodyFault faultAt lineStart judged answerTo faultAnswer causeNumber
 diagnosis s number n k h zero-bytes = refl
 diagnosis s number n k h (offending {cause = c} m o) = rw (le-ltb longestBody (length s) h, offends-fault s c n k o, means-number number c m)
@@ -273,7 +273,7 @@ unfolding completed
 completed-number ls = complete-number (anyNamed (text "version") ls) (firstMode ls) (firstAge ls) (patterns ls)
 
 -- and an answer 53 to 57 says what is wrong with the body
-pub diagnosed : (s : List ℕ) (number n k : ℕ) → 53 ≤ number → number ≤ 57 → policyAnswer s ≡ refusedAt number n k → Diagnosis s number n k
+pub diagnosed : (s : List ℕ) (number n k : ℕ) → 53 ≤ number → number ≤ 57 → policyAnswer s ≡ record { number = number; mode = 0; lifetime = 0; «mx_count» = 0; line = n; offset = k } → Diagnosis s number n k
 unfolding policyAnswer readBody judged answerTo faultAnswer
 diagnosed s number n k lo hi h = go (ltb longestBody (length s)) (bodyFault s) refl h
   where
@@ -284,7 +284,7 @@ diagnosed s number n k lo hi h = go (ltb longestBody (length s)) (bodyFault s) r
     neither (inl e) h = absurd (omega arith)
     neither (inr e) h = absurd (omega arith)
 
-    go : (t : Bool) (o : Option Fault) → bodyFault s ≡ o → answerTo (cond t tooLong (judged o ls)) ≡ refusedAt number n k → Diagnosis s number n k
+    go : (t : Bool) (o : Option Fault) → bodyFault s ≡ o → answerTo (cond t tooLong (judged o ls)) ≡ record { number = number; mode = 0; lifetime = 0; «mx_count» = 0; line = n; offset = k } → Diagnosis s number n k
     go true o e h = let z : 50 ≡ number = ap (λ (a : PolicyAnswer). a .number) h in absurd (omega arith)
     go false none e h = neither (completed-number ls) (ap (λ (a : PolicyAnswer). a .number) h)
     go false (some f) e h =

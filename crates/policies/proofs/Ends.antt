@@ -1,11 +1,11 @@
 -- The ends of lines: a body is the lines that the paper writes, each with LF or CRLF, the last perhaps without, exactly where all its lines are of the form. Assumes nothing.
 use Prim.Native.Nat.{ℕ, _≤_}
-use mathlib.Core.Path.{_≡_, refl}
+use mathlib.Core.Path.{_≡_, refl, ap, _∙_}
 use mathlib.Core.Bool.{Bool, true, false, cond, not, _&&_, and-false}
 use mathlib.Core.List.{List, [], _∷_, _++_, map}
 use native.Mathlib.Omega.{arith}
 use lib.Dec.{eqb}
-use lib.ListN.{length}
+use lib.ListN.{length, getD}
 use borrow.Author.Tests.{eqb-true, not-true}
 use Rattle.lists.specs.Bytes.{all}
 use Rattle.lists.specs.Split.{toFirst, lacks}
@@ -17,32 +17,56 @@ use Rattle.policies.specs.Fields.{isLine}
 use Rattle.policies.specs.Paper.{Pair, Line, Body, nothing, last, lf, crlf}
 use Rattle.policies.proofs.Forms.{pairOf, line-made, line-read, line-lacks, line-some}
 
--- a line with no LF and no CR, and an end: the first line of a body
-module _ (s : List ℕ) where
-  lines-end : (l e : List ℕ) → lacks LF l ≡ true → lacks CR l ≡ true → lines (e ++ s) ≡ [] ∷ lines s → lines (l ++ (e ++ s)) ≡ l ∷ lines s
-  unfolding lines all toFirst
-  lines-end [] e h k start = start
-  lines-end (x ∷ l) e h k start =
-      let a = and-both (not (eqb x LF)) (lacks LF l) h in
-      let b = and-both (not (eqb x CR)) (lacks CR l) k in
-      rw (not-true (eqb x LF) (a .0), not-true (eqb x CR) (b .0), lines-end l e (a .1) (b .1) start)
+-- the last byte is CR
+unfoldable pub endsInCR : List ℕ → Bool
+endsInCR [] = false
+endsInCR (x ∷ []) = eqb x CR
+endsInCR (x ∷ y ∷ l) = endsInCR (y ∷ l)
 
-  start-lf : lines ((LF ∷ []) ++ s) ≡ [] ∷ lines s
-  unfolding lines
-  start-lf = refl
+-- a byte that ends no line and begins no CRLF is the first of its line
+one-in-line : (x : ℕ) (t : List ℕ) → eqb x LF ≡ false → (eqb x CR && eqb (getD t 0 0) LF) ≡ false → lines (x ∷ t) ≡ toFirst x (lines t)
+unfolding lines
+one-in-line x t h k = rw (h, k)
 
-  start-crlf : lines ((CR ∷ LF ∷ []) ++ s) ≡ [] ∷ lines s
-  unfolding lines
-  start-crlf = refl
+two-in-line : (x y : ℕ) (l t : List ℕ) → lacks LF (x ∷ y ∷ l) ≡ true → lines (x ∷ y ∷ t) ≡ toFirst x (lines (y ∷ t))
+unfolding all
+two-in-line x y l t h =
+    let a = and-both (not (eqb x LF)) (lacks LF (y ∷ l)) h in
+    let b = and-both (not (eqb y LF)) (lacks LF l) (a .1) in
+    one-in-line x (y ∷ t) (not-true (eqb x LF) (a .0)) (rw (not-true (eqb y LF) (b .0)) (and-false (eqb x CR)))
 
-lines-last : (l : List ℕ) → 1 ≤ length l → lacks LF l ≡ true → lacks CR l ≡ true → lines l ≡ l ∷ []
-unfolding lines all toFirst
-lines-last [] o h k = absurd (omega arith)
-lines-last (x ∷ l) o h k = go l (lines-last l) (and-both (not (eqb x LF)) (lacks LF l) h) (and-both (not (eqb x CR)) (lacks CR l) k)
-  where
-    go : (m : List ℕ) → (1 ≤ length m → lacks LF m ≡ true → lacks CR m ≡ true → lines m ≡ m ∷ []) → (not (eqb x LF) ≡ true) × (lacks LF m ≡ true) → (not (eqb x CR) ≡ true) × (lacks CR m ≡ true) → lines (x ∷ m) ≡ (x ∷ m) ∷ []
-    go [] ih a b = rw (not-true (eqb x LF) (a .0), not-true (eqb x CR) (b .0))
-    go (y ∷ m) ih a b = rw (not-true (eqb x LF) (a .0), not-true (eqb x CR) (b .0), ih (omega arith) (a .1) (b .1))
+rest-lacks : (x : ℕ) (l : List ℕ) → lacks LF (x ∷ l) ≡ true → lacks LF l ≡ true
+unfolding all
+rest-lacks x l h = and-both (not (eqb x LF)) (lacks LF l) h .1
+
+first-lacks : (x : ℕ) (l : List ℕ) → lacks LF (x ∷ l) ≡ true → eqb x LF ≡ false
+unfolding all
+first-lacks x l h = not-true (eqb x LF) (and-both (not (eqb x LF)) (lacks LF l) h .0)
+
+-- What a line is, whatever its bytes but LF: what stands before its LF, or its CRLF, or the body's end. A CR elsewhere stays in its line
+pub line-lf : (l s : List ℕ) → lacks LF l ≡ true → endsInCR l ≡ false → lines (l ++ (LF ∷ s)) ≡ l ∷ lines s
+unfolding lines toFirst endsInCR
+line-lf [] s h k = refl
+line-lf (x ∷ []) s h k = rw (first-lacks x [] h, k)
+line-lf (x ∷ y ∷ l) s h k = two-in-line x y l (l ++ (LF ∷ s)) h ∙ ap (toFirst x) (line-lf (y ∷ l) s (rest-lacks x (y ∷ l) h) k)
+
+pub line-crlf : (l s : List ℕ) → lacks LF l ≡ true → lines (l ++ (CR ∷ LF ∷ s)) ≡ l ∷ lines s
+unfolding lines toFirst
+line-crlf [] s h = refl
+line-crlf (x ∷ []) s h = rw (first-lacks x [] h, and-false (eqb x CR))
+line-crlf (x ∷ y ∷ l) s h = two-in-line x y l (l ++ (CR ∷ LF ∷ s)) h ∙ ap (toFirst x) (line-crlf (y ∷ l) s (rest-lacks x (y ∷ l) h))
+
+pub line-last : (l : List ℕ) → 1 ≤ length l → lacks LF l ≡ true → lines l ≡ l ∷ []
+unfolding lines toFirst
+line-last [] o h = absurd (omega arith)
+line-last (x ∷ []) o h = rw (first-lacks x [] h, and-false (eqb x CR))
+line-last (x ∷ y ∷ l) o h = two-in-line x y l l h ∙ ap (toFirst x) (line-last (y ∷ l) (omega arith) (rest-lacks x (y ∷ l) h))
+
+clean-end : (l : List ℕ) → lacks CR l ≡ true → endsInCR l ≡ false
+unfolding endsInCR all
+clean-end [] h = refl
+clean-end (x ∷ []) h = not-true (eqb x CR) (and-both (not (eqb x CR)) true h .0)
+clean-end (x ∷ y ∷ l) h = clean-end (y ∷ l) (and-both (not (eqb x CR)) (lacks CR (y ∷ l)) h .1)
 
 -- LF and CR stand in no line
 no-lf : (l : List ℕ) (f : Pair) → Line l f → lacks LF l ≡ true
@@ -66,9 +90,9 @@ one-more l ls ms f fs h e ih =
 body-reads : (s : List ℕ) (fs : List Pair) → Body s fs → Reads (lines s) fs
 unfolding Reads lines all
 body-reads s fs nothing = (refl, refl)
-body-reads s fs (last {l} {f} h) = one-more l [] (lines l) f [] h (lines-last l (line-some l f h) (no-lf l f h) (no-cr l f h)) (refl, refl)
-body-reads s fs (lf {l} {s = t} {f} {fs = gs} h b) = one-more l (lines t) (lines s) f gs h (lines-end t l (LF ∷ []) (no-lf l f h) (no-cr l f h) (start-lf t)) (body-reads t gs b)
-body-reads s fs (crlf {l} {s = t} {f} {fs = gs} h b) = one-more l (lines t) (lines s) f gs h (lines-end t l (CR ∷ LF ∷ []) (no-lf l f h) (no-cr l f h) (start-crlf t)) (body-reads t gs b)
+body-reads s fs (last {l} {f} h) = one-more l [] (lines l) f [] h (line-last l (line-some l f h) (no-lf l f h)) (refl, refl)
+body-reads s fs (lf {l} {s = t} {f} {fs = gs} h b) = one-more l (lines t) (lines s) f gs h (line-lf l t (no-lf l f h) (clean-end l (no-cr l f h))) (body-reads t gs b)
+body-reads s fs (crlf {l} {s = t} {f} {fs = gs} h b) = one-more l (lines t) (lines s) f gs h (line-crlf l t (no-lf l f h)) (body-reads t gs b)
 
 pub body-read : (s : List ℕ) (fs : List Pair) → Body s fs → (all isLine (lines s) ≡ true) × (map pairOf (lines s) ≡ fs)
 unfolding Reads

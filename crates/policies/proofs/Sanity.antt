@@ -24,22 +24,22 @@ use Rattle.policies.specs.declared.Fault.{Fault}
 use Rattle.policies.specs.declared.PolicyAnswer.{PolicyAnswer}
 use Rattle.policies.specs.Lines.{LF, CR, lines}
 use Rattle.policies.specs.Fields.{valueOf, isNamed, firstNamed, isThere, decimalAfter, causeAfter}
-use Rattle.policies.specs.Policy.{Policy, Reading, tooLong, malformed, incomplete, policy, longestBody, faultAt, orLater, firstFault, bodyFault, completed, judged, readBody, modeNumber, causeNumber, refusedAt, refused, faultAnswer, answerTo, policyAnswer, patternsOf}
+use Rattle.policies.specs.Policy.{Policy, Reading, tooLong, malformed, incomplete, policy, longestBody, faultAt, orLater, firstFault, bodyFault, completed, judged, readBody, modeNumber, causeNumber, faultAnswer, answerTo, policyAnswer, patternsOf}
 use Rattle.policies.specs.Paper.{Pair, Body, nothing, last, lf, crlf, firstValue, values, Makes, Writes}
-use Rattle.policies.specs.Diagnosis.{Means, line-form, bad-version, bad-mode, bad-max-age, bad-mx}
+use Rattle.policies.specs.Diagnosis.{Means, line-form, bad-version, bad-mode, bad-max-age, bad-mx, Diagnosis}
 use Rattle.policies.proofs.Body.{lines-there}
 use Rattle.policies.proofs.Ends.{no-cr}
 use Rattle.policies.proofs.Answers.{cause-range}
-use Rattle.policies.proofs.Diagnosis.{number-means, completed-number}
+use Rattle.policies.proofs.Diagnosis.{number-means, completed-number, diagnosed}
 use Rattle.policies.proofs.Exactly.{wellFormed, fault-exactly}
 use Rattle.policies.proofs.Paper.{accepts, accepted, patterns-are, some-byte}
 
 -- Every answer: 7 with the numbers of a policy, a refusal 50 or 52, or 53 to 57 with a line and an offset; all else is zero
 pub data Answer : PolicyAnswer → Type 0 where
   answer-7 : (mode lifetime count : ℕ) → Answer (record { number = 7; mode = mode; lifetime = lifetime; «mx_count» = count; line = 0; offset = 0 })
-  answer-50 : Answer (refused 50)
-  answer-52 : Answer (refused 52)
-  answer-wrong : {number : ℕ} {cause : Cause} → Means number cause → (line offset : ℕ) → Answer (refusedAt number line offset)
+  answer-50 : Answer (record { number = 50; mode = 0; lifetime = 0; «mx_count» = 0; line = 0; offset = 0 })
+  answer-52 : Answer (record { number = 52; mode = 0; lifetime = 0; «mx_count» = 0; line = 0; offset = 0 })
+  answer-wrong : {number : ℕ} {cause : Cause} → Means number cause → (line offset : ℕ) → Answer (record { number = number; mode = 0; lifetime = 0; «mx_count» = 0; line = line; offset = offset })
 
 answers : (r : Reading) → Answer (answerTo r)
 unfolding answerTo faultAnswer
@@ -79,17 +79,9 @@ policy-number s = go (policyAnswer s) (answer-table s)
 pub never-51 : (s : List ℕ) → policyAnswer s .number ≡ 51 → ⊥
 never-51 s e = apart (rw e at (policy-number s))
 
--- and never zero
-never-zero : (r : Reading) → answerTo r .number ≡ 0 → ⊥
-unfolding answerTo faultAnswer
-never-zero tooLong h = omega arith
-never-zero (malformed f) h = omega (arith, cause-range (f .cause) .0)
-never-zero incomplete h = omega arith
-never-zero (policy p) h = omega arith
-
+-- and no answer is zero
 pub answer-never-zero : (s : List ℕ) → policyAnswer s .number ≡ 0 → ⊥
-unfolding policyAnswer
-answer-never-zero s h = never-zero (readBody s) h
+answer-never-zero s e = apart (rw e at (policy-number s))
 
 -- 7 is the answer to a policy and to nothing else: 1 to 65,536 bytes that write it, a mode 1 to 3, a lifetime of at most the longest, and the number of its patterns,
 -- which are all those of the body
@@ -146,32 +138,31 @@ accepted-answer s h = go (readBody s) refl h
     go incomplete e k = absurd (omega arith)
     go (policy p) e k = policy-accepted s p e
 
+completed-not : (p : ℕ → Bool) → p 7 ≡ false → p 52 ≡ false → (ls : List (List ℕ)) → p (answerTo (completed ls) .number) ≡ false
+completed-not p a b ls = go (answerTo (completed ls) .number) (completed-number ls)
+  where
+    go : (n : ℕ) → (n ≡ 7) ⊎ (n ≡ 52) → p n ≡ false
+    go n (inl e) = rw e a
+    go n (inr e) = rw e b
+
 -- In the order 50, 53 to 57, 52: 50 exactly for more than 65,536 bytes
 pub long-exactly : (s : List ℕ) → eqb (policyAnswer s .number) 50 ≡ ltb longestBody (length s)
 unfolding policyAnswer readBody judged answerTo faultAnswer
 long-exactly s = go (ltb longestBody (length s)) (bodyFault s)
   where
-    other : (n : ℕ) → (n ≡ 7) ⊎ (n ≡ 52) → eqb n 50 ≡ false
-    other n (inl e) = rw e
-    other n (inr e) = rw e
-
     go : (t : Bool) (o : Option Fault) → eqb (answerTo (cond t tooLong (judged o (lines s))) .number) 50 ≡ t
     go true o = refl
     go false (some f) = ne-eqb (causeNumber (f .cause)) 50 (λ e. absurd (omega (arith, cause-range (f .cause) .0)))
-    go false none = other (answerTo (completed (lines s)) .number) (completed-number (lines s))
+    go false none = completed-not (λ (n : ℕ). eqb n 50) refl refl (lines s)
 
 -- then 53 to 57 exactly for no bytes or lines that are not well-formed; `diagnosis` and `diagnosed` say which
 pub malformed-exactly : (s : List ℕ) → within 53 57 (policyAnswer s .number) ≡ (not (ltb longestBody (length s)) && not (leb 1 (length s) && wellFormed (lines s)))
 unfolding policyAnswer readBody judged answerTo faultAnswer isThere
 malformed-exactly s = go (ltb longestBody (length s)) (bodyFault s) (leb 1 (length s) && wellFormed (lines s)) (fault-exactly s)
   where
-    other : (n : ℕ) → (n ≡ 7) ⊎ (n ≡ 52) → within 53 57 n ≡ false
-    other n (inl e) = rw e
-    other n (inr e) = rw e
-
     go : (t : Bool) (o : Option Fault) (w : Bool) → isThere o ≡ not w → within 53 57 (answerTo (cond t tooLong (judged o (lines s))) .number) ≡ (not t && not w)
     go true o w h = refl
-    go false none true h = other (answerTo (completed (lines s)) .number) (completed-number (lines s))
+    go false none true h = completed-not (within 53 57) refl refl (lines s)
     go false none false h = never cc
     go false (some f) true h = never cc
     go false (some f) false h =
@@ -187,23 +178,40 @@ sound-exactly s h k = rw (le-ltb longestBody (length s) h) (go (bodyFault s) (fa
     go none e = refl
     go (some f) e = never cc
 
--- Bodies of the same lines get the same answer, whatever the ends of the lines, but for the offset of a line that offends
-abbrev pub anywhere : PolicyAnswer → PolicyAnswer
-anywhere a = record { number = a .number; mode = a .mode; lifetime = a .lifetime; «mx_count» = a .«mx_count»; line = a .line; offset = 0 }
-
-fault-anywhere : (s t : List ℕ) (earlier ls ms : List (List ℕ)) → anywhere (answerTo (judged (firstFault s earlier ls) ms)) ≡ anywhere (answerTo (judged (firstFault t earlier ls) ms))
-unfolding firstFault orLater faultAt judged answerTo faultAnswer
-fault-anywhere s t earlier [] ms = refl
-fault-anywhere s t earlier (l ∷ ls) ms = go (causeAfter earlier l) (fault-anywhere s t (l ∷ earlier) ls ms)
+-- So 52 is the answer exactly where nothing is wrong with the body and it writes no policy
+pub nothing-wrong : (s : List ℕ) → length s ≤ longestBody → ((number n k : ℕ) → Diagnosis s number n k → ⊥) → (policyAnswer s .number ≡ 7) ⊎ (policyAnswer s ≡ record { number = 52; mode = 0; lifetime = 0; «mx_count» = 0; line = 0; offset = 0 })
+nothing-wrong s h none-wrong = go (policyAnswer s) refl (answer-table s)
   where
-    go : (o : Option Cause) → anywhere (answerTo (judged (firstFault s (l ∷ earlier) ls) ms)) ≡ anywhere (answerTo (judged (firstFault t (l ∷ earlier) ls) ms)) → anywhere (answerTo (judged (orLater s (length earlier) o (firstFault s (l ∷ earlier) ls)) ms)) ≡ anywhere (answerTo (judged (orLater t (length earlier) o (firstFault t (l ∷ earlier) ls)) ms))
+    range : (n : ℕ) (c : Cause) → Means n c → (53 ≤ n) × (n ≤ 57)
+    range n c line-form = (omega arith, omega arith)
+    range n c bad-version = (omega arith, omega arith)
+    range n c bad-mode = (omega arith, omega arith)
+    range n c bad-max-age = (omega arith, omega arith)
+    range n c bad-mx = (omega arith, omega arith)
+
+    go : (a : PolicyAnswer) → policyAnswer s ≡ a → Answer a → (a .number ≡ 7) ⊎ (a ≡ record { number = 52; mode = 0; lifetime = 0; «mx_count» = 0; line = 0; offset = 0 })
+    go a e (answer-7 m l c) = inl refl
+    go a e answer-50 = apart (sym (le-ltb longestBody (length s) h) ∙ (sym (long-exactly s) ∙ rw e))
+    go a e answer-52 = inr refl
+    go a e (answer-wrong {number} {cause} m n k) = absurd (none-wrong number n k (diagnosed s number n k (range number cause m .0) (range number cause m .1) e))
+
+-- Bodies of the same lines get the same answer, whatever the ends of the lines, but for the offset of a line that offends
+abbrev pub withoutOffset : PolicyAnswer → PolicyAnswer
+withoutOffset a = record { number = a .number; mode = a .mode; lifetime = a .lifetime; «mx_count» = a .«mx_count»; line = a .line; offset = 0 }
+
+fault-alike : (s t : List ℕ) (earlier ls ms : List (List ℕ)) → withoutOffset (answerTo (judged (firstFault s earlier ls) ms)) ≡ withoutOffset (answerTo (judged (firstFault t earlier ls) ms))
+unfolding firstFault orLater faultAt judged answerTo faultAnswer
+fault-alike s t earlier [] ms = refl
+fault-alike s t earlier (l ∷ ls) ms = go (causeAfter earlier l) (fault-alike s t (l ∷ earlier) ls ms)
+  where
+    go : (o : Option Cause) → withoutOffset (answerTo (judged (firstFault s (l ∷ earlier) ls) ms)) ≡ withoutOffset (answerTo (judged (firstFault t (l ∷ earlier) ls) ms)) → withoutOffset (answerTo (judged (orLater s (length earlier) o (firstFault s (l ∷ earlier) ls)) ms)) ≡ withoutOffset (answerTo (judged (orLater t (length earlier) o (firstFault t (l ∷ earlier) ls)) ms))
     go none ih = ih
     go (some c) ih = refl
 
 no-lines : {A : Type 0} (x : ℕ) (s : List ℕ) → lines (x ∷ s) ≡ [] → A
 no-lines x s e = let z : length (lines (x ∷ s)) ≡ 0 = rw e in absurd (omega (arith, lines-there x s))
 
-pub answer-by-lines : (s t : List ℕ) → lines s ≡ lines t → length s ≤ longestBody → length t ≤ longestBody → anywhere (policyAnswer s) ≡ anywhere (policyAnswer t)
+pub answer-by-lines : (s t : List ℕ) → lines s ≡ lines t → length s ≤ longestBody → length t ≤ longestBody → withoutOffset (policyAnswer s) ≡ withoutOffset (policyAnswer t)
 unfolding policyAnswer readBody bodyFault lines
 answer-by-lines [] [] e h k = refl
 answer-by-lines [] (y ∷ t) e h k = no-lines y t (sym e)
@@ -211,7 +219,7 @@ answer-by-lines (x ∷ s) [] e h k = no-lines x s e
 answer-by-lines (x ∷ s) (y ∷ t) e h k =
     let c = ne-eqb (length (x ∷ s)) 0 (λ z. absurd (omega arith)) in
     let d = ne-eqb (length (y ∷ t)) 0 (λ z. absurd (omega arith)) in
-    rw (le-ltb longestBody (length (x ∷ s)) h, le-ltb longestBody (length (y ∷ t)) k, c, d, e) (fault-anywhere (x ∷ s) (y ∷ t) [] (lines (y ∷ t)) (lines (y ∷ t)))
+    rw (le-ltb longestBody (length (x ∷ s)) h, le-ltb longestBody (length (y ∷ t)) k, c, d, e) (fault-alike (x ∷ s) (y ∷ t) [] (lines (y ∷ t)) (lines (y ∷ t)))
 
 -- a last end, LF or CRLF, after a line without one changes no line
 module _ (e : List ℕ) (end : (x : ℕ) → (x ≡ LF → ⊥) → (x ≡ CR → ⊥) → lines (x ∷ e) ≡ (x ∷ []) ∷ []) where

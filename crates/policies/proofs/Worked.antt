@@ -19,7 +19,10 @@ use Rattle.policies.specs.declared.Fault.{Fault}
 use Rattle.policies.specs.Texts.{utf8Tail, utf8Two, utf8Three, utf8Four, printable, isText, isValue}
 use Rattle.policies.specs.Lines.{lines, lineStart}
 use Rattle.policies.specs.Fields.{nameOf, valueOf, isLine, isNamed, firstNamed, patterns, isVersion, modeOf, isDigit, decimalAfter, ageOf, isThere, isFirst, causeAfter}
-use Rattle.policies.specs.Policy.{faultAt, orLater, firstFault, bodyFault, modeIn, ageIn, hasPatterns, complete, completed, judged, readBody, modeNumber, causeNumber, refusedAt, refused, faultAnswer, answerTo, policyAnswer, patternsOf}
+use Rattle.policies.specs.Policy.{faultAt, orLater, firstFault, bodyFault, modeIn, ageIn, hasPatterns, complete, completed, judged, readBody, modeNumber, causeNumber, faultAnswer, answerTo, policyAnswer, patternsOf}
+
+abbrev refusedAt : ℕ → ℕ → ℕ → PolicyAnswer
+refusedAt number line offset = record { number = number; mode = 0; lifetime = 0; «mx_count» = 0; line = line; offset = offset }
 
 abbrev accepted : ℕ → ℕ → ℕ → PolicyAnswer
 accepted mode lifetime count = record { number = 7; mode = mode; lifetime = lifetime; «mx_count» = count; line = 0; offset = 0 }
@@ -38,7 +41,7 @@ answers : map policyAnswer
     ∷ text "version: STSv1\nmode: none\nmax_age: 12345678901\n"
     ∷ text "version: STSv1\nmode: none\nmax_age: 1\nmx: *.*.a\n"
     ∷ text "" ∷ [])
-    ≡ accepted 1 604800 3 ∷ accepted 2 1296000 3 ∷ accepted 1 7 1 ∷ accepted 3 31557600 0 ∷ refused 52 ∷ refused 52 ∷ refused 52 ∷ refusedAt 54 1 0 ∷ refusedAt 56 3 26 ∷ refusedAt 57 4 37 ∷ refusedAt 53 1 0 ∷ []
+    ≡ accepted 1 604800 3 ∷ accepted 2 1296000 3 ∷ accepted 1 7 1 ∷ accepted 3 31557600 0 ∷ refusedAt 52 0 0 ∷ refusedAt 52 0 0 ∷ refusedAt 52 0 0 ∷ refusedAt 54 1 0 ∷ refusedAt 56 3 26 ∷ refusedAt 57 4 37 ∷ refusedAt 53 1 0 ∷ []
 unfolding all any agree sameByte spanOf indexOf split toFirst labelByte isLabel isName isStarred isWildcard isPattern cappedAge blank trimmedLength letterOrDigit nameByte isFieldName hasName utf8Tail utf8Two utf8Three utf8Four printable isText isValue lines lineStart nameOf valueOf isLine isNamed firstNamed patterns isVersion modeOf isDigit decimalAfter ageOf isThere isFirst causeAfter faultAt orLater firstFault bodyFault modeIn ageIn hasPatterns complete completed judged readBody modeNumber causeNumber faultAnswer answerTo policyAnswer
 answers = refl
 

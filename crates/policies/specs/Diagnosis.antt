@@ -32,15 +32,15 @@ countLF [] = 0
 countLF (b ∷ s) = cond (eqb b LF) (suc (countLF s)) (countLF s)
 
 -- no bytes, or bytes that end in LF
-unfoldable pub areLines : List ℕ → Bool
-areLines [] = true
-areLines (b ∷ []) = eqb b LF
-areLines (b ∷ c ∷ s) = areLines (c ∷ s)
+unfoldable pub wholeLines : List ℕ → Bool
+wholeLines [] = true
+wholeLines (b ∷ []) = eqb b LF
+wholeLines (b ∷ c ∷ s) = wholeLines (c ∷ s)
 
 -- line n of the body s, counted from 1, begins at the offset k: inside of the body, after whole lines, n - 1 of them
 pub record Begins (s : List ℕ) (n k : ℕ) : Type 0 where
   pub inside : k < length s
-  pub after : areLines (take k s) ≡ true
+  pub after : wholeLines (take k s) ≡ true
   pub counted : n ≡ countLF (take k s) + 1
 
 -- line n of the body s is "the first line that offends", by this cause, and k is "the byte offset where it begins"

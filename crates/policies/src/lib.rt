@@ -13,7 +13,7 @@ ghost use Rattle.fields.specs.Name.{hasName, fieldAt};
 ghost use Rattle.policies.specs.Texts.{printable, isText};
 ghost use Rattle.policies.specs.declared.Checked.{Checked};
 ghost use Rattle.policies.specs.Fields.{modeOf, ageOf, valueOf};
-ghost use Rattle.policies.specs.Policy.{modeNumber, causeNumber, refused, faultAnswer, policyAnswer, patternsOf, policyFor};
+ghost use Rattle.policies.specs.Policy.{modeNumber, causeNumber, refusedAt, refused, faultAnswer, policyAnswer, patternsOf, policyFor};
 ghost use Rattle.policies.specs.Reader.{strippedValue, textEnd, kindOf, heldMode, heldAge, holdsMode, modeHeld, takeVersion, takeMode, takeAge, takeMx, takeField, takeLine, turnAt, checked, enough, accepted, seenAnswer, forHost};
 use fields::Field;
 use names::Pattern;
@@ -518,18 +518,25 @@ fn check(s: &[u8], host: &[u8], known: bool) -> Checked
     Checked::Read(seen, count, listed)
 }
 
-// A refusal that names no line.
-fn refusal(number: u64) -> PolicyAnswer
-    ensures { λ r. ⌜ r ≡ refused number ⌝ }
+// A refusal with this number, which names this line that begins there.
+fn refusal_at(number: u64, line: u64, offset: u64) -> PolicyAnswer
+    ensures { λ r. ⌜ r ≡ refusedAt number line offset ⌝ }
 {
     PolicyAnswer {
         number: number,
         mode: 0,
         lifetime: 0,
         mx_count: 0,
-        line: 0,
-        offset: 0,
+        line: line,
+        offset: offset,
     }
+}
+
+// A refusal that names no line.
+fn refusal(number: u64) -> PolicyAnswer
+    ensures { λ r. ⌜ r ≡ refused number ⌝ }
+{
+    refusal_at(number, 0, 0)
 }
 
 // The number of a cause.
@@ -551,16 +558,7 @@ fn fault_refusal(fault: Fault) -> PolicyAnswer
 {
     let cause = fault.cause;
     let number = cause_number(cause);
-    let line = fault.line;
-    let offset = fault.offset;
-    PolicyAnswer {
-        number: number,
-        mode: 0,
-        lifetime: 0,
-        mx_count: 0,
-        line: line,
-        offset: offset,
-    }
+    refusal_at(number, fault.line, fault.offset)
 }
 
 // The number of a mode.
