@@ -306,7 +306,7 @@ struct tweedstork_policy_answer {
     uint64_t lifetime;
     uint64_t mx_count;
     uint64_t line;                          /* the first line that offends, counted from 1 */
-    uint64_t offset;                        /* where that line begins in the body, in bytes */
+    uint64_t offset;                        /* where that line begins in the body, in bytes from 0 */
 };
 
 /*
