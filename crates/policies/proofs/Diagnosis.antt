@@ -14,9 +14,8 @@ use Rattle.lists.specs.Equal.{agree, sameByte, sameBytes}
 use Rattle.lists.specs.Split.{indexOf}
 use Rattle.lists.specs.Text.{text}
 use Rattle.lists.proofs.Agree.{same-bytes}
-use Rattle.lists.proofs.Bools.{and-both, never}
+use Rattle.lists.proofs.Bools.{and-both, by-cond, never}
 use Rattle.names.specs.Name.{isPattern}
-use Rattle.clock.specs.Clock.{lifetimeOf}
 use Rattle.policies.specs.declared.Mode.{Mode}
 use Rattle.policies.specs.declared.Cause.{Cause}
 use Rattle.policies.specs.declared.Cause.the-variants as C
@@ -24,7 +23,7 @@ use Rattle.policies.specs.declared.Fault.{Fault}
 use Rattle.policies.specs.declared.PolicyAnswer.{PolicyAnswer}
 use Rattle.policies.specs.Lines.{lines, lineStart}
 use Rattle.policies.specs.Fields.{nameOf, valueOf, isLine, isNamed, anyNamed, isVersion, modeOf, ageOf, isThere, isFirst, causeAfter, patterns}
-use Rattle.policies.specs.Policy.{tooLong, incomplete, policy, longestBody, faultAt, orLater, firstFault, bodyFault, firstMode, firstAge, hasPatterns, complete, completed, judged, readBody, causeNumber, faultAnswer, answerTo, policyAnswer}
+use Rattle.policies.specs.Policy.{Reading, tooLong, longestBody, faultAt, orLater, firstFault, bodyFault, firstMode, firstAge, hasPatterns, complete, completed, judged, readBody, causeNumber, faultAnswer, answerTo, policyAnswer}
 use Rattle.policies.specs.Diagnosis.{Wrong, form, version, mode, max-age, mx, Sound, one-more, Begins, Offends, Means, line-form, bad-version, bad-mode, bad-max-age, bad-mx, Diagnosis, zero-bytes, offending}
 use Rattle.policies.specs.Diagnosis as D
 use Rattle.policies.proofs.Begins.{begins-cut, begins-count, begins-start, line-begins}
@@ -142,7 +141,7 @@ cause-alike : (earlier ls : List (List ℕ)) (l : List ℕ) → Alike earlier ls
 unfolding causeAfter isFirst
 cause-alike earlier ls l a = rw (a .named (text "version"), a .named (text "mode"), a .named (text "max_age"))
 
--- a fault that was found after the lines ls: the line that offends, among ls and the lines after them
+-- a fault that was found in the lines `all`: the line that offends, with nothing wrong before it
 record Found (s : List ℕ) (all : List (List ℕ)) (f : Fault) : Type 0 where
   before : List (List ℕ)
   line : List ℕ
@@ -228,7 +227,7 @@ offends-fault s cause n k w =
     ∙ rw (c, p .alike .count, begins-start s n k (w .begins), sym (begins-count s n k (w .begins))))
 
 -- the number of each cause
-means-number : (number : ℕ) (cause : Cause) → Means number cause → causeNumber cause ≡ number
+pub means-number : (number : ℕ) (cause : Cause) → Means number cause → causeNumber cause ≡ number
 unfolding causeNumber
 means-number number cause line-form = refl
 means-number number cause bad-version = refl
@@ -257,18 +256,17 @@ fault-diagnosis [] f h = let e : f ≡ record { cause = C.Form; line = 1; offset
 fault-diagnosis (x ∷ s) f h = offending (number-means (f .cause)) (fault-offends (x ∷ s) (omega arith) f h)
 
 -- lines without a fault are answered with 7 or 52
-complete-number : (v : Bool) (m : Option Mode) (g : Option ℕ) (ps : List (List ℕ)) → (answerTo (complete v m g ps) .number ≡ 7) ⊎ (answerTo (complete v m g ps) .number ≡ 52)
+abbrev pub SevenOr52 : Reading → Type 0
+SevenOr52 r = (answerTo r .number ≡ 7) ⊎ (answerTo r .number ≡ 52)
+
+complete-number : (v : Bool) (m : Option Mode) (g : Option ℕ) (ps : List (List ℕ)) → SevenOr52 (complete v m g ps)
 unfolding complete answerTo
 complete-number false m g ps = inr refl
 complete-number true none g ps = inr refl
 complete-number true (some m) none ps = inr refl
-complete-number true (some m) (some g) ps = go (hasPatterns m ps)
-  where
-    go : (t : Bool) → (answerTo (cond t (policy (record { mode = m; lifetime = lifetimeOf g; patterns = ps })) incomplete) .number ≡ 7) ⊎ (answerTo (cond t (policy (record { mode = m; lifetime = lifetimeOf g; patterns = ps })) incomplete) .number ≡ 52)
-    go true = inl refl
-    go false = inr refl
+complete-number true (some m) (some g) ps = by-cond SevenOr52 (hasPatterns m ps) (λ e. inl refl) (λ e. inr refl)
 
-pub completed-number : (ls : List (List ℕ)) → (answerTo (completed ls) .number ≡ 7) ⊎ (answerTo (completed ls) .number ≡ 52)
+pub completed-number : (ls : List (List ℕ)) → SevenOr52 (completed ls)
 unfolding completed
 completed-number ls = complete-number (anyNamed (text "version") ls) (firstMode ls) (firstAge ls) (patterns ls)
 
@@ -280,7 +278,7 @@ diagnosed s number n k lo hi h = go (ltb longestBody (length s)) (bodyFault s) r
     ls : List (List ℕ)
     ls = lines s
 
-    neither : (answerTo (completed ls) .number ≡ 7) ⊎ (answerTo (completed ls) .number ≡ 52) → answerTo (completed ls) .number ≡ number → Diagnosis s number n k
+    neither : SevenOr52 (completed ls) → answerTo (completed ls) .number ≡ number → Diagnosis s number n k
     neither (inl e) h = absurd (omega arith)
     neither (inr e) h = absurd (omega arith)
 

@@ -30,7 +30,7 @@ use Rattle.policies.specs.Diagnosis.{Means, line-form, bad-version, bad-
 use Rattle.policies.proofs.Body.{lines-there}
 use Rattle.policies.proofs.Ends.{no-cr}
 use Rattle.policies.proofs.Answers.{cause-range}
-use Rattle.policies.proofs.Diagnosis.{number-means, completed-number, diagnosed}
+use Rattle.policies.proofs.Diagnosis.{means-number, number-means, completed-number, diagnosed}
 use Rattle.policies.proofs.Exactly.{wellFormed, fault-exactly}
 use Rattle.policies.proofs.Paper.{accepts, accepted, patterns-are, some-byte}
 
@@ -83,24 +83,31 @@ never-51 s e = apart (rw e at (policy-number s))
 pub answer-never-zero : (s : List ℕ) → policyAnswer s .number ≡ 0 → ⊥
 answer-never-zero s e = apart (rw e at (policy-number s))
 
--- 7 is the answer to a policy and to nothing else: 1 to 65,536 bytes that write it, a mode 1 to 3, a lifetime of at most the longest, and the number of its patterns,
--- which are all those of the body
+-- the numbers of the modes
+pub data ModeIs : Mode → ℕ → Type 0 where
+  enforce-1 : ModeIs M.Enforce 1
+  testing-2 : ModeIs M.Testing 2
+  none-3 : ModeIs M.None 3
+
+-- 7 is the answer to a policy and to nothing else: 1 to 65,536 bytes that write it; its mode, 1 enforce, 2 testing, 3 none; its lifetime, at most the longest; and the
+-- number of its patterns, which are all those of the body
 pub record Accepts (s : List ℕ) : Type 0 where
   pub read : Policy
   pub reads : readBody s ≡ policy read
   pub writes : Writes s read
   pub some-bytes : 1 ≤ length s
   pub fits : length s ≤ longestBody
-  pub mode : (1 ≤ policyAnswer s .mode) × (policyAnswer s .mode ≤ 3)
-  pub lifetime : policyAnswer s .lifetime ≤ longest
+  pub mode : ModeIs (read .mode) (policyAnswer s .mode)
+  pub lifetime : policyAnswer s .lifetime ≡ read .lifetime .0
+  pub at-most : policyAnswer s .lifetime ≤ longest
   pub patterns : read .patterns ≡ patternsOf s
   pub count : policyAnswer s .«mx_count» ≡ length (patternsOf s)
 
-mode-range : (m : Mode) → (1 ≤ modeNumber m) × (modeNumber m ≤ 3)
+mode-is : (m : Mode) → ModeIs m (modeNumber m)
 unfolding modeNumber
-mode-range M.Enforce = (omega arith, omega arith)
-mode-range M.Testing = (omega arith, omega arith)
-mode-range M.None = (omega arith, omega arith)
+mode-is M.Enforce = enforce-1
+mode-is M.Testing = testing-2
+mode-is M.None = none-3
 
 module _ (s : List ℕ) (p : Policy) (e : readBody s ≡ policy p) where
   written : Writes s p
@@ -122,8 +129,9 @@ module _ (s : List ℕ) (p : Policy) (e : readBody s ≡ policy p) where
         writes = written;
         some-bytes = leb-true 1 (length s) (some-byte s p written);
         fits = written .fits;
-        mode = rw answer-is (mode-range (p .mode));
-        lifetime = rw (answer-is, written .makes .lifetime) (capped-most (decimalAfter 0 (written .makes .age)));
+        mode = rw answer-is (mode-is (p .mode));
+        lifetime = rw answer-is;
+        at-most = rw (answer-is, written .makes .lifetime) (capped-most (decimalAfter 0 (written .makes .age)));
         patterns = patterns-of;
         count = rw answer-is (ap length patterns-of);
       }
@@ -178,22 +186,17 @@ sound-exactly s h k = rw (le-ltb longestBody (length s) h) (go (bodyFault s) (fa
     go none e = refl
     go (some f) e = never cc
 
--- So 52 is the answer exactly where nothing is wrong with the body and it writes no policy
+-- No fault is left out: a body of at most 65,536 bytes with which nothing is wrong is answered with 7 or 52
 pub nothing-wrong : (s : List ℕ) → length s ≤ longestBody → ((number n k : ℕ) → Diagnosis s number n k → ⊥) → (policyAnswer s .number ≡ 7) ⊎ (policyAnswer s ≡ record { number = 52; mode = 0; lifetime = 0; «mx_count» = 0; line = 0; offset = 0 })
 nothing-wrong s h none-wrong = go (policyAnswer s) refl (answer-table s)
   where
-    range : (n : ℕ) (c : Cause) → Means n c → (53 ≤ n) × (n ≤ 57)
-    range n c line-form = (omega arith, omega arith)
-    range n c bad-version = (omega arith, omega arith)
-    range n c bad-mode = (omega arith, omega arith)
-    range n c bad-max-age = (omega arith, omega arith)
-    range n c bad-mx = (omega arith, omega arith)
-
     go : (a : PolicyAnswer) → policyAnswer s ≡ a → Answer a → (a .number ≡ 7) ⊎ (a ≡ record { number = 52; mode = 0; lifetime = 0; «mx_count» = 0; line = 0; offset = 0 })
     go a e (answer-7 m l c) = inl refl
     go a e answer-50 = apart (sym (le-ltb longestBody (length s) h) ∙ (sym (long-exactly s) ∙ rw e))
     go a e answer-52 = inr refl
-    go a e (answer-wrong {number} {cause} m n k) = absurd (none-wrong number n k (diagnosed s number n k (range number cause m .0) (range number cause m .1) e))
+    go a e (answer-wrong {number} {cause} m n k) =
+        let r = rw (means-number number cause m) at (cause-range cause) in
+        absurd (none-wrong number n k (diagnosed s number n k (r .0) (r .1) e))
 
 -- Bodies of the same lines get the same answer, whatever the ends of the lines, but for the offset of a line that offends
 abbrev pub withoutOffset : PolicyAnswer → PolicyAnswer
