@@ -16,8 +16,8 @@ const struct implementation implementations[IMPLEMENTATIONS] = {
 static struct answer call_judge_host(const struct implementation *implementation, const struct facts *f)
 {
     struct tweedstork_host_answer a = implementation->judge_host(
-        f->clock, f->next_hop.at, f->next_hop.length, f->origin, f->host.at, f->host.length, f->address,
-        f->expanded.at, f->expanded.length, f->policy_given, f->policy.at, f->policy.length, f->fetched, f->tlsa_answers,
+        f->clock, f->next_hop.at, f->next_hop.length, f->expanded_next_hop_given, f->expanded_next_hop.at, f->expanded_next_hop.length,
+        f->origin, f->host.at, f->host.length, f->address, f->expanded.at, f->expanded.length, f->policy_given, f->policy.at, f->policy.length, f->fetched, f->tlsa_answers,
         f->tlsa[0].result, f->tlsa[0].lengths.at, f->tlsa[0].lengths.length, f->tlsa[0].records.at, f->tlsa[0].records.length,
         f->tlsa[1].result, f->tlsa[1].lengths.at, f->tlsa[1].lengths.length, f->tlsa[1].records.at, f->tlsa[1].records.length,
         f->starttls, f->handshake, f->certificates_given, f->certificates.at, f->certificates.length,

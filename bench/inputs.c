@@ -448,6 +448,7 @@ static struct facts facts_with(size_t certificates)
     memset(&f, 0, sizeof f);
     f.clock = 1700000000;
     f.next_hop = text("example.com");
+    f.expanded_next_hop_given = TWEEDSTORK_NO;
     f.origin = TWEEDSTORK_SECURE_MX;
     f.host = text("mail.example.com");
     f.address = TWEEDSTORK_NO_ALIAS_INSECURE;
@@ -497,6 +498,17 @@ static void give_policy(struct facts *f)
     f->fetched = f->clock - 1000;
 }
 
+/* The next-hop is an alias, and the leaf names what it is an alias of: RFC 7672, 3.2.2. */
+static void give_alias(struct facts *f)
+{
+    f->next_hop = text("exchange.example.org");
+    f->expanded_next_hop_given = TWEEDSTORK_YES;
+    f->expanded_next_hop = text("example.com");
+    f->host = text("mx10.example.com");
+    f->dns_ids = text("example.com");
+    f->dns_id_lengths = list_of(1, f->dns_ids.length);
+}
+
 /* One record 3 0 0 that is the leaf itself. */
 static void give_whole_leaf(struct facts *f)
 {
@@ -528,6 +540,10 @@ static void add_single_hosts(struct inputs *inputs)
     f = add_host(inputs, CALLS, "host, 1 TLSA record 2 1 1, 8 certificates", 8, TWEEDSTORK_DANE, 1);
     give_records(f, 1, 2);
     match(f, 0, 7);
+    f = add_host(inputs, CALLS, "host, 1 TLSA record 2 1 1, 8 certificates, named by the expanded next-hop", 8, TWEEDSTORK_DANE, 1);
+    give_records(f, 1, 2);
+    match(f, 0, 7);
+    give_alias(f);
     f = add_host(inputs, CALLS, "host, 32 TLSA records 2 1 1, 8 certificates", 8, TWEEDSTORK_DANE, 1);
     give_records(f, 32, 2);
     match(f, 31, 7);

@@ -21,6 +21,8 @@ struct tlsa {
 struct facts {
     uint64_t clock;
     struct bytes next_hop;
+    uint64_t expanded_next_hop_given;
+    struct bytes expanded_next_hop;
     uint64_t origin;
     struct bytes host;
     uint64_t address;

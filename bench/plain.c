@@ -637,6 +637,8 @@ struct shown {
 struct facts {
     uint64_t clock;
     struct slice next_hop;
+    uint64_t expanded_next_hop_given;
+    struct slice expanded_next_hop;
     uint64_t origin;
     struct slice host;
     uint64_t address;
@@ -664,8 +666,8 @@ static int are_yes_no(struct slice list)
 
 static int are_codes(const struct facts *f)
 {
-    if (!is_between(f->origin, TWEEDSTORK_SECURE_MX, TWEEDSTORK_NO_MX) || !is_between(f->address, TWEEDSTORK_NO_ALIAS_SECURE, TWEEDSTORK_ADDRESS_ABSENT)
-        || !is_yes_no(f->policy_given) || f->tlsa_answers > 2 || f->starttls > 2 || f->handshake > 2 || f->certificates_given > 1)
+    if (!is_yes_no(f->expanded_next_hop_given) || !is_between(f->origin, TWEEDSTORK_SECURE_MX, TWEEDSTORK_NO_MX)
+        || !is_between(f->address, TWEEDSTORK_NO_ALIAS_SECURE, TWEEDSTORK_ADDRESS_ABSENT) || !is_yes_no(f->policy_given) || f->tlsa_answers > 2 || f->starttls > 2 || f->handshake > 2 || f->certificates_given > 1)
         return 0;
     for (size_t i = 0; i < f->tlsa_answers; i++)
         if (!is_between(f->tlsa[i].result, TWEEDSTORK_TLSA_SECURE, TWEEDSTORK_TLSA_LOOKUP_FAILED))
@@ -674,10 +676,10 @@ static int are_codes(const struct facts *f)
         || (is_yes_no(f->shown.trusted_root) && is_yes_no(f->shown.common_name_given) && are_yes_no(f->shown.paths));
 }
 
-/* Zero, or the refusal of one of the three names. */
+/* Zero, or the refusal of one of the four names. */
 static uint64_t refused_names(const struct facts *f)
 {
-    if (!is_name(f->next_hop))
+    if (!is_name(f->next_hop) || (f->expanded_next_hop_given == TWEEDSTORK_YES && !is_name(f->expanded_next_hop)))
         return TWEEDSTORK_BAD_NEXT_HOP;
     if (f->origin == TWEEDSTORK_NO_MX ? !is_same_name(f->host, f->next_hop) : !is_name(f->host))
         return TWEEDSTORK_BAD_HOST;
@@ -877,14 +879,33 @@ static uint64_t walk_tlsa(const struct facts *f, struct walk *w)
     return 0;
 }
 
+/*
+ * The names of which a leaf has to have one under usage 2, and how many there are: the base domain, the next-hop and the expanded
+ * next-hop. Where the last two are one name, comparing it twice changes nothing, so they are not compared with each other.
+ */
+enum { MOST_REFERENCES = 3 };
+
+static size_t make_references(const struct facts *f, struct slice base, struct reference references[MOST_REFERENCES])
+{
+    references[0] = reference_of(base);
+    if (f->origin == TWEEDSTORK_INSECURE_MX)
+        return 1;
+    references[1] = reference_of(f->next_hop);
+    if (f->origin == TWEEDSTORK_NO_MX || f->expanded_next_hop_given == TWEEDSTORK_NO)
+        return 2;
+    references[2] = reference_of(f->expanded_next_hop);
+    return 3;
+}
+
 static struct tweedstork_host_answer judge_certificates(const struct facts *f, const struct walk *w, const struct reference *host)
 {
     const struct shown *s = &f->shown;
     int needs_dane = w->set == USABLE_SET, any = s->lengths.length != 0;
 
     if (needs_dane) {
-        struct reference references[2] = {reference_of(w->base), reference_of(f->next_hop)};
-        if (!any || !dane_passes(w->tlsa, s, references, f->origin == TWEEDSTORK_INSECURE_MX ? 1 : 2))
+        struct reference references[MOST_REFERENCES];
+        size_t count = make_references(f, w->base, references);
+        if (!any || !dane_passes(w->tlsa, s, references, count))
             return answer(TWEEDSTORK_DANE_MISMATCH, w->questions);
     }
     if (!w->needs_mta_sts)
@@ -962,6 +983,8 @@ static struct tweedstork_host_answer check_and_judge(const struct facts *f)
 struct tweedstork_host_answer plain_judge_host(
     uint64_t clock,
     const uint8_t *next_hop, size_t next_hop_length,
+    uint64_t expanded_next_hop_given,
+    const uint8_t *expanded_next_hop, size_t expanded_next_hop_length,
     uint64_t origin,
     const uint8_t *host, size_t host_length,
     uint64_t address,
@@ -991,7 +1014,8 @@ struct tweedstork_host_answer plain_judge_host(
     const uint8_t *common_name, size_t common_name_length)
 {
     const struct facts facts = {
-        clock, {next_hop, next_hop_length}, origin, {host, host_length}, address, {expanded, expanded_length},
+        clock, {next_hop, next_hop_length}, expanded_next_hop_given, {expanded_next_hop, expanded_next_hop_length},
+        origin, {host, host_length}, address, {expanded, expanded_length},
         policy_given, {policy, policy_length}, fetched, tlsa_answers,
         {{tlsa1_result, {tlsa1_lengths, tlsa1_lengths_length}, {tlsa1_records, tlsa1_records_length}},
          {tlsa2_result, {tlsa2_lengths, tlsa2_lengths_length}, {tlsa2_records, tlsa2_records_length}}},

@@ -50,7 +50,7 @@ int handshake_prepare(SSL *ssl, const struct tweedstork_host_facts *host);
  * Reads the facts of a connection whose handshake is finished.
  * roots: whom the relay trusts, made once by X509_STORE_new and X509_STORE_set_default_paths (which succeeds with no roots there
  *        too: see at start-up that a certificate that should verify does).
- * host:  its three names are read: where a leaf has too many DNS-IDs, only those are given that can match one of them. So the facts
+ * host:  its four names are read: where a leaf has too many DNS-IDs, only those are given that can match one of them. So the facts
  *        are for this host alone.
  * Returns 0 where there are no facts: the session was resumed, memory is short, or the leaf can't be read or is outside the
  * library's limits. The relay then leaves the host out, as after TWEEDSTORK_BAD_CERTIFICATES.

@@ -150,6 +150,8 @@ static struct tweedstork_host_facts first_facts(const struct scenario_message *m
 
     facts.clock = m->clock;
     facts.next_hop = slice(&m->next_hop);
+    facts.expanded_next_hop_given = m->expanded_next_hop_given;
+    facts.expanded_next_hop = slice(&m->expanded_next_hop);
     facts.origin = m->origin;
     facts.host = slice(&host->name);
     facts.address = host->address;
@@ -339,8 +341,8 @@ static int deliver(const struct scenario_message *m, const struct policy *policy
         printf("library %" PRIu64 ": %s", answer.number, tweedstork_answer_words(answer.number));
         if (answer.number == TWEEDSTORK_TRY_HOST)
             tried = try_host(m, policy, &hosts, (size_t)answer.position);
-        if (tried == TWEEDSTORK_BAD_NEXT_HOP) { /* of the recipient's address, and so the same for every host */
-            printf("relay: returns the message, since its next-hop is no name\n");
+        if (tried == TWEEDSTORK_BAD_NEXT_HOP) { /* of the recipient's domain, and so the same for every host */
+            printf("relay: returns the message, since its next-hop, or what that is an alias of, is no name\n");
             return 1;
         }
         if (tried > TWEEDSTORK_MTA_STS_MISMATCH && !is_theirs(tried)) {

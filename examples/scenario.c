@@ -148,6 +148,7 @@ static int begin_message(struct scenario *s, const char *clock)
     if (s->message_count == SCENARIO_MESSAGES)
         return 0;
     s->message_count++;
+    m->expanded_next_hop_given = TWEEDSTORK_NO;
     m->policy_given = TWEEDSTORK_NO_POLICY;
     return read_number(clock, UINT64_MAX, &m->clock);
 }
@@ -190,6 +191,10 @@ static int read_message_line(struct scenario_message *m, char **words, size_t co
         return 0;
     if (strcmp(words[0], "next-hop") == 0)
         return append_text(&m->next_hop, words[1]);
+    if (strcmp(words[0], "expanded-next-hop") == 0) {
+        m->expanded_next_hop_given = TWEEDSTORK_YES;
+        return append_text(&m->expanded_next_hop, words[1]);
+    }
     if (strcmp(words[0], "policy-fetched") == 0) {
         m->policy_given = TWEEDSTORK_POLICY;
         return read_number(words[1], UINT64_MAX, &m->fetched);

@@ -43,7 +43,8 @@ enum scenario_fetch { SCENARIO_FETCH_NOT_SAID, SCENARIO_FETCH_ANSWERED, SCENARIO
 
 struct scenario_message {
     uint64_t clock, mx_lookup, origin;
-    struct scenario_bytes next_hop;
+    struct scenario_bytes next_hop, expanded_next_hop;
+    uint64_t expanded_next_hop_given;
     uint64_t policy_given, fetched; /* the policy that the relay has from the start */
     int looks_for_policy;           /* the file says what the TXT lookup gives: the relay looks for the policy itself */
     struct scenario_parts txt;      /* the RDATAs */

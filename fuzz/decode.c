@@ -95,7 +95,7 @@ static void put_name(struct bytes *to, const struct bytes *names, uint8_t which)
 {
     if (names == NULL)
         return;
-    const struct bytes *name = &names[which == 'N' ? 0 : which == 'X' ? 2 : 1];
+    const struct bytes *name = &names[which == 'N' ? 0 : which == 'A' ? 1 : which == 'X' ? 3 : 2];
     size_t from = 0;
     if (which == 'P') {
         const uint8_t *dot = memchr(name->at, '.', name->length);
@@ -179,7 +179,7 @@ size_t expand(struct text from, struct bytes *to, size_t start, const struct byt
         case '~':
             swap_case(to, start);
             break;
-        case 'N': case 'H': case 'X': case 'P':
+        case 'N': case 'A': case 'H': case 'X': case 'P':
             put_name(to, names, byte);
             break;
         default:

@@ -9,7 +9,7 @@
  *   $*N;         (in a list) the whole item N times
  *   $%N;         a name of N bytes               $.           the end: what follows is dropped
  *   $~           the letters so far in the other case
- *   $N $H $X $P  (host) the next-hop, the host, the expanded name, the host without its first label
+ *   $N $A $H $X $P  (host) the next-hop, the expanded next-hop, the host, the expanded name, the host without its first label
  */
 #ifndef DECODE_H
 #define DECODE_H
@@ -52,8 +52,8 @@ void put_number(struct bytes *to, uint64_t number);
 uint64_t number_at(const struct bytes *list, size_t i);
 
 /*
- * Adds what the text stands for to an item that begins at `start`; `names` are next-hop, host and expanded name, or NULL.
- * Answers how often the item is meant.
+ * Adds what the text stands for to an item that begins at `start`; `names` are next-hop, expanded next-hop, host and expanded
+ * name, or NULL. Answers how often the item is meant.
  */
 size_t expand(struct text from, struct bytes *to, size_t start, const struct bytes *names);
 

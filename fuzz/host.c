@@ -1,10 +1,10 @@
 /*
  * The fuzz target of tweedstork_judge_host. A line of an input is a letter, a colon and
- *   c   eleven codes, a character each: origin, address, policy_given, tlsa_answers, tlsa1_result, tlsa2_result, starttls,
- *       handshake, certificates_given, trusted_root, common_name_given
+ *   c   twelve codes, a character each: expanded_next_hop_given, origin, address, policy_given, tlsa_answers, tlsa1_result,
+ *       tlsa2_result, starttls, handshake, certificates_given, trusted_root, common_name_given
  *   k   the clock
  *   f   fetched: a number, or c+N or c-N, counted from the clock
- *   n, h, x   next_hop, host, expanded
+ *   n, a, h, x   next_hop, expanded_next_hop, host, expanded
  *   1, 2      the records of the two TLSA answers, each ended by a space: usage, selector, matching type (a digit is itself),
  *       then the data: a digit is what that certificate has for selector and type (after ^ for the other selector), ! changes
  *       the last bit, - drops the last byte, and any other text is as in decode.h
@@ -12,9 +12,9 @@
  *       start e is the end, E one more; length r is the rest, R one more, w the rest in 32 bits that wrap
  *   d   the DNS-IDs, each ended by a space
  *   m   the common name
- *   e   changes to the slices (decode.h): a next_hop to p common_name, in the header's order
+ *   e   changes to the slices (decode.h): a next_hop to q common_name, in the header's order
  *   p   the policy: all that is left of the input
- * A line of another form stands for nothing. Lines c, k, n, h and x have defaults (in decode).
+ * A line of another form stands for nothing. Lines c, k, n, a, h and x have defaults (in decode).
  * The digests are no real ones: the rules only compare them.
  */
 #include "target.h"
@@ -22,19 +22,20 @@
 #include <string.h>
 
 enum {
-    NEXT_HOP, HOST, EXPANDED, POLICY, TLSA1_LENGTHS, TLSA1_RECORDS, TLSA2_LENGTHS, TLSA2_RECORDS, CERTIFICATES,
-    CERTIFICATE_LENGTHS, KEY_PLACES, DIGESTS, PATHS, DNS_IDS, DNS_ID_LENGTHS, COMMON_NAME, SLICES
+    NEXT_HOP, EXPANDED_NEXT_HOP, HOST, EXPANDED, POLICY, TLSA1_LENGTHS, TLSA1_RECORDS, TLSA2_LENGTHS, TLSA2_RECORDS,
+    CERTIFICATES, CERTIFICATE_LENGTHS, KEY_PLACES, DIGESTS, PATHS, DNS_IDS, DNS_ID_LENGTHS, COMMON_NAME, SLICES
 };
 static const char *const slices[] = {
-    "next_hop", "host", "expanded", "policy", "tlsa1_lengths", "tlsa1_records", "tlsa2_lengths", "tlsa2_records", "certificates",
-    "certificate_lengths", "key_places", "digests", "paths", "dns_ids", "dns_id_lengths", "common_name", NULL};
+    "next_hop", "expanded_next_hop", "host", "expanded", "policy", "tlsa1_lengths", "tlsa1_records", "tlsa2_lengths",
+    "tlsa2_records", "certificates", "certificate_lengths", "key_places", "digests", "paths", "dns_ids", "dns_id_lengths",
+    "common_name", NULL};
 enum {
-    CLOCK, ORIGIN, ADDRESS, POLICY_GIVEN, FETCHED, TLSA_ANSWERS, TLSA1_RESULT, TLSA2_RESULT, STARTTLS, HANDSHAKE,
-    CERTIFICATES_GIVEN, TRUSTED_ROOT, COMMON_NAME_GIVEN
+    CLOCK, EXPANDED_NEXT_HOP_GIVEN, ORIGIN, ADDRESS, POLICY_GIVEN, FETCHED, TLSA_ANSWERS, TLSA1_RESULT, TLSA2_RESULT, STARTTLS,
+    HANDSHAKE, CERTIFICATES_GIVEN, TRUSTED_ROOT, COMMON_NAME_GIVEN
 };
 static const char *const numbers[] = {
-    "clock", "origin", "address", "policy_given", "fetched", "tlsa_answers", "tlsa1_result", "tlsa2_result", "starttls",
-    "handshake", "certificates_given", "trusted_root", "common_name_given", NULL};
+    "clock", "expanded_next_hop_given", "origin", "address", "policy_given", "fetched", "tlsa_answers", "tlsa1_result",
+    "tlsa2_result", "starttls", "handshake", "certificates_given", "trusted_root", "common_name_given", NULL};
 static const char *const outputs[] = {NULL};
 static const char *const fields[] = {"number", "tlsa_questions", NULL};
 static const uint8_t answers[] = {1,  2,  3,  4,  5,  10, 11, 12, 13, 14, 20, 21, 22, 23, 24, 25, 26,
@@ -162,8 +163,8 @@ static void put_items(struct text line, struct call *call, int items, int length
 
 static void take_codes(struct text line, struct call *call)
 {
-    static const int order[] = {ORIGIN, ADDRESS, POLICY_GIVEN, TLSA_ANSWERS, TLSA1_RESULT, TLSA2_RESULT, STARTTLS, HANDSHAKE,
-                                CERTIFICATES_GIVEN, TRUSTED_ROOT, COMMON_NAME_GIVEN};
+    static const int order[] = {EXPANDED_NEXT_HOP_GIVEN, ORIGIN, ADDRESS, POLICY_GIVEN, TLSA_ANSWERS, TLSA1_RESULT, TLSA2_RESULT,
+                                STARTTLS, HANDSHAKE, CERTIFICATES_GIVEN, TRUSTED_ROOT, COMMON_NAME_GIVEN};
     for (size_t i = 0; i < sizeof order / sizeof order[0]; i++)
         call->numbers[order[i]] = line.left > 0 ? code_of(take_byte(&line)) : 0;
 }
@@ -204,9 +205,10 @@ static void take_lines(struct text input, struct text *lines)
 static void decode(struct text input, struct call *call)
 {
     struct text lines['z' + 1] = {{NULL, 0}};
-    lines['c'] = text_of("12200011122");
+    lines['c'] = text_of("212200011122");
     lines['k'] = text_of("1700000000");
     lines['n'] = text_of("example.com");
+    lines['a'] = text_of("shops.example.org");
     lines['h'] = text_of("mail.example.com");
     lines['x'] = text_of("mx.example.net");
     take_lines(input, lines);
@@ -214,6 +216,7 @@ static void decode(struct text input, struct call *call)
     call->numbers[CLOCK] = moment(lines['k'], 0);
     call->numbers[FETCHED] = moment(lines['f'], call->numbers[CLOCK]);
     expand(lines['n'], &call->slices[NEXT_HOP], 0, call->slices);
+    expand(lines['a'], &call->slices[EXPANDED_NEXT_HOP], 0, call->slices);
     expand(lines['h'], &call->slices[HOST], 0, call->slices);
     expand(lines['x'], &call->slices[EXPANDED], 0, call->slices);
     put_certificates(lines['s'], call);
@@ -230,8 +233,8 @@ static void ask(int independent, const struct call *call, uint64_t *answer)
     __typeof__(tweedstork_judge_host) *judge_host = independent ? independent_judge_host : tweedstork_judge_host;
     const uint64_t *n = call->numbers;
     struct tweedstork_host_answer a = judge_host(
-        n[CLOCK], LENT(call, NEXT_HOP), n[ORIGIN], LENT(call, HOST), n[ADDRESS], LENT(call, EXPANDED),
-        n[POLICY_GIVEN], LENT(call, POLICY), n[FETCHED], n[TLSA_ANSWERS],
+        n[CLOCK], LENT(call, NEXT_HOP), n[EXPANDED_NEXT_HOP_GIVEN], LENT(call, EXPANDED_NEXT_HOP),
+        n[ORIGIN], LENT(call, HOST), n[ADDRESS], LENT(call, EXPANDED), n[POLICY_GIVEN], LENT(call, POLICY), n[FETCHED], n[TLSA_ANSWERS],
         n[TLSA1_RESULT], LENT(call, TLSA1_LENGTHS), LENT(call, TLSA1_RECORDS),
         n[TLSA2_RESULT], LENT(call, TLSA2_LENGTHS), LENT(call, TLSA2_RECORDS),
         n[STARTTLS], n[HANDSHAKE], n[CERTIFICATES_GIVEN],

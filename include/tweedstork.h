@@ -25,8 +25,7 @@
  * - a TLSA record under 3 bytes counts as a failed lookup (22), and not as an unusable record;
  * - usage 2 never matches the leaf, self-signed or not (as long as the relay gives no path to a copy of it);
  * - an underscore is no part of a name (60, 61), also in an expanded name that no rule reads;
- * - the expanded next-hop is no reference yet (RFC 7672, 3.2.2), and a SHA-256 record still counts beside a SHA-512 one
- *   (digest agility, RFC 7672, 5): both will be added;
+ * - a SHA-256 record still counts beside a SHA-512 one (digest agility, RFC 7672, 5): it will be added;
  * - a policy with an empty last line is refused (53), as the RFC's grammar has it; some readers let it pass.
  *
  * Conventions
@@ -55,8 +54,8 @@ extern "C" {
 #endif
 
 /* The version of this header. A number that another version gave a meaning to is never given a second one. */
-#define TWEEDSTORK_VERSION "1.2.0"
-#define TWEEDSTORK_VERSION_NUMBER 10200 /* major * 10000 + minor * 100 + patch */
+#define TWEEDSTORK_VERSION "1.3.0"
+#define TWEEDSTORK_VERSION_NUMBER 10300 /* major * 10000 + minor * 100 + patch */
 
 /* The version of the archive. It equals TWEEDSTORK_VERSION_NUMBER where header and archive belong together. */
 uint64_t tweedstork_version(void);
@@ -114,8 +113,8 @@ enum tweedstork_number {
     TWEEDSTORK_POLICY_BAD_MODE = 55,        /* refused: the policy's mode is none of 'enforce', 'testing' and 'none' */
     TWEEDSTORK_POLICY_BAD_MAX_AGE = 56,     /* refused: the policy's max_age is not 1 to 10 digits */
     TWEEDSTORK_POLICY_BAD_MX = 57,          /* refused: an mx of the policy is neither a name nor '*.' and a name */
-    TWEEDSTORK_BAD_NEXT_HOP = 60,           /* refused: the next-hop, or a cache's domain, is no name (perhaps it is empty, or
-                                               has a final dot, a zero byte or an underscore) */
+    TWEEDSTORK_BAD_NEXT_HOP = 60,           /* refused: the next-hop, the expanded next-hop or a cache's domain is no name
+                                               (perhaps it is empty, or has a final dot, a zero byte or an underscore) */
     TWEEDSTORK_BAD_HOST = 61,               /* refused: the host or the expanded name of an alias is no name (perhaps it is
                                                empty, or has a final dot, a zero byte or an underscore), or with no MX the host
                                                is not the next-hop */
@@ -186,8 +185,8 @@ static inline const char *tweedstork_answer_words(uint64_t number)
     case TWEEDSTORK_POLICY_BAD_MAX_AGE: return "refused: the policy's max_age is not 1 to 10 digits";
     case TWEEDSTORK_POLICY_BAD_MX: return "refused: an mx of the policy is neither a name nor '*.' and a name";
     case TWEEDSTORK_BAD_NEXT_HOP:
-        return "refused: the next-hop, or a cache's domain, is no name (perhaps it is empty, or has a final dot, a zero byte "
-               "or an underscore)";
+        return "refused: the next-hop, the expanded next-hop or a cache's domain is no name (perhaps it is empty, or has a "
+               "final dot, a zero byte or an underscore)";
     case TWEEDSTORK_BAD_HOST:
         return "refused: the host or the expanded name of an alias is no name (perhaps it is empty, or has a final dot, a "
                "zero byte or an underscore), or with no MX the host is not the next-hop";
@@ -444,11 +443,17 @@ struct tweedstork_host_answer {
  * tweedstork_judge_facts takes the same by name.
  *
  * Takes:   in every call: clock (seconds since 1970), next_hop (the name that the MX lookup was made for, or the configured
- *          host where none was), origin of the host list (enum tweedstork_origin), host (the name of the host to judge),
- *          address (result of its address lookup, enum tweedstork_address), expanded (the fully expanded host name, wanted with
- *          each of the three alias results, 3, 4 and 5), policy_given (enum tweedstork_policy_given), policy (a body that
- *          tweedstork_read_policy accepted) and fetched (the clock of its fetch; with a policy never left zero: that is a
- *          policy of 1970, stale, so that a stripped STARTTLS is delivered in cleartext).
+ *          host where none was), expanded_next_hop_given (yes/no: TWEEDSTORK_YES where the next-hop is an alias) and
+ *          expanded_next_hop (the fully expanded next-hop, the name at which the MX records stand), origin of the host list
+ *          (enum tweedstork_origin), host (the name of the host to judge), address (result of its address lookup, enum
+ *          tweedstork_address), expanded (the fully expanded host name, wanted with each of the three alias results, 3, 4 and
+ *          5), policy_given (enum tweedstork_policy_given), policy (a body that tweedstork_read_policy accepted) and fetched
+ *          (the clock of its fetch; with a policy never left zero: that is a policy of 1970, stale, so that a stripped STARTTLS
+ *          is delivered in cleartext).
+ *
+ *          The expanded next-hop is one more name that a certificate may have under usage 2 (RFC 7672, 3.2.2), with
+ *          TWEEDSTORK_SECURE_MX only; with the other origins it is checked and not used. One that is the next-hop itself
+ *          changes nothing.
  *
  *          A TXT record that is missing or refused, a fetch that fails, or a body that tweedstork_read_policy refuses never
  *          replaces an earlier policy that is still live: the relay goes on giving that one, with the clock of its own fetch,
@@ -491,9 +496,10 @@ struct tweedstork_host_answer {
  *            record or certificate, or a key place lies outside its certificate.
  *          - A server that shows over 8 certificates or over 64 DNS-IDs is refused (65), even where a TLSA record would match.
  *            Safely left out are certificates after the leaf whose path doesn't verify, with their key place, digests and
- *            path; and DNS-IDs that can match none of host, expanded name and next-hop, as long as one DNS-ID stays.
- *          - 60 may come of the recipient's address (user@my_shop.example): it holds for every host, and by these rules nobody
- *            may be given the message: the relay returns or delays it.
+ *            path; and DNS-IDs that can match none of host, expanded name, next-hop and expanded next-hop, as long as one
+ *            DNS-ID stays.
+ *          - 60 may come of the recipient's address (user@my_shop.example), or of what its domain is an alias of: it holds for
+ *            every host, and by these rules nobody may be given the message: the relay returns or delays it.
  *          - 50 and 52 to 57 cannot come where the relay gives only bodies that tweedstork_read_policy accepted.
  *          - 62, 66 and 67 are mistakes of the relay's own.
  * Leaves:  all memory as it was.
@@ -501,6 +507,8 @@ struct tweedstork_host_answer {
 struct tweedstork_host_answer tweedstork_judge_host(
     uint64_t clock,
     const uint8_t *next_hop, size_t next_hop_length,
+    uint64_t expanded_next_hop_given,
+    const uint8_t *expanded_next_hop, size_t expanded_next_hop_length,
     uint64_t origin,
     const uint8_t *host, size_t host_length,
     uint64_t address,
@@ -591,8 +599,8 @@ struct tweedstork_tlsa_answer {
 /*
  * The arguments of tweedstork_judge_host by name. A new struct for each host, all zero: TLSA answers left over from another host
  * would count as this one's. A fact that isn't learnt yet stays zero; zero is never "no", so a question that comes twice running
- * means that its fact was left zero. Never zero are origin, address and policy_given (67); nor, once certificates are given,
- * trusted_root and common_name_given (67).
+ * means that its fact was left zero. Never zero are expanded_next_hop_given, origin, address and policy_given (67); nor, once
+ * certificates are given, trusted_root and common_name_given (67).
  *
  * No call can refuse these: with a policy fetched is never zero (the policy would be stale), a secure TLSA answer has all its
  * records (without them it is the same as absent), and clock is never zero (every policy would stay live). The first two can end
@@ -601,6 +609,8 @@ struct tweedstork_tlsa_answer {
 struct tweedstork_host_facts {
     uint64_t clock;
     struct tweedstork_slice next_hop;
+    uint64_t expanded_next_hop_given;       /* TWEEDSTORK_YES or TWEEDSTORK_NO */
+    struct tweedstork_slice expanded_next_hop;
     uint64_t origin;                        /* enum tweedstork_origin */
     struct tweedstork_slice host;
     uint64_t address;                       /* enum tweedstork_address */
@@ -629,6 +639,8 @@ static inline struct tweedstork_host_answer tweedstork_judge_facts(const struct 
     return tweedstork_judge_host(
         facts->clock,
         facts->next_hop.bytes, facts->next_hop.length,
+        facts->expanded_next_hop_given,
+        facts->expanded_next_hop.bytes, facts->expanded_next_hop.length,
         facts->origin,
         facts->host.bytes, facts->host.length,
         facts->address,

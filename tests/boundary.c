@@ -185,7 +185,7 @@ static struct tweedstork_host_answer judge(uint64_t clock, const char *host, uin
     uint8_t *name = memory(length);
     memcpy(name, host, length);
     return tweedstork_judge_host(
-        clock, name, length, TWEEDSTORK_NO_MX, name, length, address, NULL, 0, TWEEDSTORK_NO_POLICY, NULL, 0, UINT64_MAX,
+        clock, name, length, TWEEDSTORK_NO, NULL, 0, TWEEDSTORK_NO_MX, name, length, address, NULL, 0, TWEEDSTORK_NO_POLICY, NULL, 0, UINT64_MAX,
         0, UINT64_MAX, NULL, 0, NULL, 0, UINT64_MAX, NULL, 0, NULL, 0, starttls, TWEEDSTORK_HANDSHAKE_NOT_GIVEN, certificates_given,
         NULL, 0, NULL, 0, NULL, 0, NULL, 0, NULL, 0, TWEEDSTORK_NO, NULL, 0, NULL, 0, TWEEDSTORK_NO, NULL, 0);
 }
@@ -223,6 +223,7 @@ static struct tweedstork_host_facts known(uint64_t address, const char *policy)
     memset(&facts, 0, sizeof facts);
     facts.clock = 605799;
     facts.next_hop = text("example.com");
+    facts.expanded_next_hop_given = TWEEDSTORK_NO;
     facts.origin = TWEEDSTORK_INSECURE_MX;
     facts.host = text("mail.example.com");
     facts.address = address;
@@ -293,6 +294,107 @@ static void host_policies(void)
         char name[40];
         snprintf(name, sizeof name, "a host's policy, refused with %u", (unsigned)refused[i].number);
         judged(name, tweedstork_judge_facts(&facts), refused[i].number, 0);
+    }
+}
+
+/* The text in memory of just its size. */
+static struct tweedstork_slice guarded(const char *s)
+{
+    struct tweedstork_slice slice = {NULL, strlen(s)};
+
+    if (slice.length != 0)
+        slice.bytes = memcpy(memory(slice.length), s, slice.length);
+    return slice;
+}
+
+/*
+ * RFC 7672, 3.2.2: mail to exchange.example.org, an alias of example.com, through mx10.example.com with its record 2 0 1. The server
+ * shows a leaf with this DNS-ID, and the certificate that the record names. The lists are the last call's.
+ */
+static struct tweedstork_host_facts aliased(const char *dns_id)
+{
+    static const char record[35] = {2, 0, 1}; /* and a digest of zeros, which the second certificate has */
+    static const uint8_t certificates[2], key_places[16];
+    static uint8_t record_length[4], lengths[8], digests[2 * 192], paths[8], dns_id_length[4];
+    struct tweedstork_host_facts facts = known_with(TWEEDSTORK_NO_ALIAS_SECURE, NULL, TWEEDSTORK_TLSA_SECURE, record, 35, record_length);
+    const struct tweedstork_slice lists[] = {{certificates, 2}, {lengths, 8}, {key_places, 16}, {digests, sizeof digests}, {paths, 8}, {dns_id_length, 4}};
+
+    for (size_t i = 0; i < 2; i++) {
+        tweedstork_put_number(lengths, i, 1);
+        tweedstork_put_number(paths, i, TWEEDSTORK_YES);
+    }
+    memset(digests, 1, 192);
+    tweedstork_put_number(dns_id_length, 0, (uint32_t)strlen(dns_id));
+    facts.next_hop = text("exchange.example.org");
+    facts.expanded_next_hop_given = TWEEDSTORK_YES;
+    facts.expanded_next_hop = guarded("example.com");
+    facts.origin = TWEEDSTORK_SECURE_MX;
+    facts.host = text("mx10.example.com");
+    facts.starttls = TWEEDSTORK_STARTTLS_OFFERED;
+    facts.handshake = TWEEDSTORK_ESTABLISHED;
+    facts.certificates_given = TWEEDSTORK_CERTIFICATES_GIVEN;
+    facts.certificates = lists[0];
+    facts.certificate_lengths = lists[1];
+    facts.key_places = lists[2];
+    facts.digests = lists[3];
+    facts.paths = lists[4];
+    facts.dns_ids = text(dns_id);
+    facts.dns_id_lengths = lists[5];
+    facts.trusted_root = facts.common_name_given = TWEEDSTORK_NO;
+    return facts;
+}
+
+/* The expanded next-hop is a name that the leaf may have, with secure MX alone. */
+static void expanded_next_hops(void)
+{
+    enum { YES = TWEEDSTORK_DANE, NO = TWEEDSTORK_DANE_MISMATCH };
+    static const struct {
+        const char *dns_id;
+        uint64_t secure_mx, insecure_mx, none_given;
+    } names[] = {
+        {"exchange.example.org", YES, NO, YES},
+        {"example.com", YES, NO, NO},
+        {"EXAMPLE.com", YES, NO, NO},
+        {"*.com", YES, NO, NO},
+        {"mx10.example.com", YES, YES, YES},
+        {"mail.example.org", NO, NO, NO},
+        {"mx15.example.com", NO, NO, NO},
+    };
+    for (size_t i = 0; i < sizeof names / sizeof names[0]; i++) {
+        struct tweedstork_host_facts facts = aliased(names[i].dns_id);
+        char name[60];
+        snprintf(name, sizeof name, "aliased next-hop, DNS-ID %s", names[i].dns_id);
+        judged(name, tweedstork_judge_facts(&facts), names[i].secure_mx, 1);
+        facts.origin = TWEEDSTORK_INSECURE_MX;
+        judged(name, tweedstork_judge_facts(&facts), names[i].insecure_mx, 1);
+        facts.origin = TWEEDSTORK_SECURE_MX;
+        facts.expanded_next_hop_given = TWEEDSTORK_NO;
+        judged(name, tweedstork_judge_facts(&facts), names[i].none_given, 1);
+        facts.expanded_next_hop = text("no name, and not looked at");
+        judged(name, tweedstork_judge_facts(&facts), names[i].none_given, 1);
+    }
+}
+
+/* Refused after the next-hop and before the host, whatever the origin. */
+static void refused_expanded_next_hops(void)
+{
+    static const char *const refused[] = {"", "example.com.", "my_shop.example", "example..com"};
+    static const uint64_t codes[] = {0, 3, (uint64_t)1 << 32 | TWEEDSTORK_YES, UINT64_MAX};
+    struct tweedstork_host_facts facts = aliased("exchange.example.org");
+
+    for (size_t i = 0; i < sizeof refused / sizeof refused[0]; i++) {
+        facts.expanded_next_hop = guarded(refused[i]);
+        for (facts.origin = TWEEDSTORK_SECURE_MX; facts.origin <= TWEEDSTORK_NO_MX; facts.origin++)
+            judged("expanded next-hop that is no name", tweedstork_judge_facts(&facts), TWEEDSTORK_BAD_NEXT_HOP, 0);
+        facts.origin = TWEEDSTORK_SECURE_MX;
+    }
+    facts.host = text("");
+    judged("neither expanded next-hop nor host is a name", tweedstork_judge_facts(&facts), TWEEDSTORK_BAD_NEXT_HOP, 0);
+    facts.expanded_next_hop = guarded("example.com");
+    judged("the host is no name", tweedstork_judge_facts(&facts), TWEEDSTORK_BAD_HOST, 0);
+    for (size_t i = 0; i < sizeof codes / sizeof codes[0]; i++) {
+        facts.expanded_next_hop_given = codes[i];
+        judged("expanded next-hop neither given nor none", tweedstork_judge_facts(&facts), TWEEDSTORK_BAD_CODE, 0);
     }
 }
 
@@ -380,6 +482,8 @@ int main(void)
     policies_of_many_lines();
     hosts();
     host_policies();
+    expanded_next_hops();
+    refused_expanded_next_hops();
     certificates_matter();
     server_names();
     message_hosts();

@@ -19,7 +19,8 @@ static struct tweedstork_slice slice(const uint8_t *bytes, size_t length)
 }
 
 struct tweedstork_host_answer tweedstork_judge_host(
-    uint64_t clock, const uint8_t *next_hop, size_t next_hop_length, uint64_t origin, const uint8_t *host, size_t host_length,
+    uint64_t clock, const uint8_t *next_hop, size_t next_hop_length, uint64_t expanded_next_hop_given,
+    const uint8_t *expanded_next_hop, size_t expanded_next_hop_length, uint64_t origin, const uint8_t *host, size_t host_length,
     uint64_t address, const uint8_t *expanded, size_t expanded_length, uint64_t policy_given, const uint8_t *policy,
     size_t policy_length, uint64_t fetched, uint64_t tlsa_answers, uint64_t tlsa1_result, const uint8_t *tlsa1_lengths,
     size_t tlsa1_lengths_length, const uint8_t *tlsa1_records, size_t tlsa1_records_length, uint64_t tlsa2_result,
@@ -32,6 +33,8 @@ struct tweedstork_host_answer tweedstork_judge_host(
 {
     noted.clock = clock;
     noted.next_hop = slice(next_hop, next_hop_length);
+    noted.expanded_next_hop_given = expanded_next_hop_given;
+    noted.expanded_next_hop = slice(expanded_next_hop, expanded_next_hop_length);
     noted.origin = origin;
     noted.host = slice(host, host_length);
     noted.address = address;
@@ -79,7 +82,7 @@ static void each_field_arrives(void)
     struct tweedstork_host_facts facts = facts_of_their_own();
     struct tweedstork_host_answer answer;
 
-    expect("no field is padded or of another size", sizeof facts == 8 * (13 + 2 * 16));
+    expect("no field is padded or of another size", sizeof facts == 8 * (14 + 2 * 17));
     memset(&noted, 0, sizeof noted);
     answered.number = 12345;
     answered.tlsa_questions = 67890;

@@ -9,9 +9,10 @@ use lib.ListN.{length}
 use borrow.Author.Needs.{needs}
 use borrow.Author.Tests.{not-true, not-false}
 use Rattle.lists.specs.Bytes.{any}
+use Rattle.lists.specs.Equal.{sameText}
 use Rattle.numbers.specs.Pieces.{cut}
-use Rattle.certificates.specs.Facts.{commonNameOf}
-use Rattle.certificates.specs.Checks.{references, leafNames}
+use Rattle.certificates.specs.Facts.{when, commonNameOf}
+use Rattle.certificates.specs.Checks.{furtherReference, references, leafNames}
 use Rattle.certificates.specs.declared.Origin.{Origin}
 use Rattle.certificates.specs.declared.Origin.the-variants.{SecureMx, InsecureMx, NoMx}
 
@@ -42,27 +43,49 @@ module _ (p : List ℕ → Bool) (s ns common : List ℕ) (given : Bool) (n : �
 
 pub ruleset leaf-names-laws = (leaf-ids, leaf-nameless, leaf-common, not-true, not-false, needs)
 
--- `names_reference`: f and r are what the calls gave, p is the test of a reference
-first-hit : (p : List ℕ → Bool) (origin : Origin) (domain next : List ℕ) → p domain ≡ true → any p (references origin domain next) ≡ true
-unfolding references any
-first-hit p SecureMx domain next h = rw h
-first-hit p InsecureMx domain next h = rw h
-first-hit p NoMx domain next h = rw h
-
-module _ (p : List ℕ → Bool) (origin : Origin) (domain next : List ℕ) (f : Bool) (fe : f ≡ p domain) where
-  pub reference-domain : f ≡ true → true ≡ any p (references origin domain next)
-  reference-domain t = sym (first-hit p origin domain next (sym fe ∙ t))
+-- `names_next_hop`: f, s and r are what the calls gave, p is the test of a reference
+module _ (p : List ℕ → Bool) (next expanded : List ℕ) (given f : Bool) (fe : f ≡ p next) where
+  pub next-hop-named : f ≡ true → true ≡ any p (next ∷ furtherReference next (when given expanded))
+  unfolding any
+  next-hop-named t = rw (sym fe ∙ t)
 
   module _ (ff : f ≡ false) where
-    pub reference-secure : origin ≡ Origin.SecureMx → (r : Bool) → r ≡ p next → r ≡ any p (references origin domain next)
-    unfolding references any
-    reference-secure h r e = rw (h, sym fe ∙ ff, or-false (p next)) e
+    pub next-hop-alone : given ≡ false → false ≡ any p (next ∷ furtherReference next (when given expanded))
+    unfolding furtherReference any
+    next-hop-alone h = rw (sym fe ∙ ff, h)
 
-    pub reference-insecure : origin ≡ Origin.InsecureMx → false ≡ any p (references origin domain next)
+    module _ (h : given ≡ true) (s : Bool) (se : s ≡ sameText expanded next) where
+      pub next-hop-same : s ≡ true → false ≡ any p (next ∷ furtherReference next (when given expanded))
+      unfolding furtherReference any
+      next-hop-same t = rw (sym fe ∙ ff, h, sym se ∙ t)
+
+      pub next-hop-differs : s ≡ false → (r : Bool) → r ≡ p expanded → r ≡ any p (next ∷ furtherReference next (when given expanded))
+      unfolding furtherReference any
+      next-hop-differs t r e = rw (sym fe ∙ ff, h, sym se ∙ t, or-false (p expanded)) e
+
+pub ruleset next-hop-laws = (next-hop-named, next-hop-alone, next-hop-same, next-hop-differs, not-true, not-false, needs)
+
+-- `names_reference`: f and r are what the calls gave, p is the test of a reference
+first-hit : (p : List ℕ → Bool) (origin : Origin) (domain next : List ℕ) (expanded : Option (List ℕ)) → p domain ≡ true → any p (references origin domain next expanded) ≡ true
+unfolding references any
+first-hit p SecureMx domain next expanded h = rw h
+first-hit p InsecureMx domain next expanded h = rw h
+first-hit p NoMx domain next expanded h = rw h
+
+module _ (p : List ℕ → Bool) (origin : Origin) (domain next : List ℕ) (expanded : Option (List ℕ)) (f : Bool) (fe : f ≡ p domain) where
+  pub reference-domain : f ≡ true → true ≡ any p (references origin domain next expanded)
+  reference-domain t = sym (first-hit p origin domain next expanded (sym fe ∙ t))
+
+  module _ (ff : f ≡ false) where
+    pub reference-secure : origin ≡ Origin.SecureMx → (r : Bool) → r ≡ any p (next ∷ furtherReference next expanded) → r ≡ any p (references origin domain next expanded)
+    unfolding references any
+    reference-secure h r e = rw (h, sym fe ∙ ff) e
+
+    pub reference-insecure : origin ≡ Origin.InsecureMx → false ≡ any p (references origin domain next expanded)
     unfolding references any
     reference-insecure h = rw (h, sym fe ∙ ff)
 
-    pub reference-no-mx : origin ≡ Origin.NoMx → (r : Bool) → r ≡ p next → r ≡ any p (references origin domain next)
+    pub reference-no-mx : origin ≡ Origin.NoMx → (r : Bool) → r ≡ p next → r ≡ any p (references origin domain next expanded)
     unfolding references any
     reference-no-mx h r e = rw (h, sym fe ∙ ff, or-false (p next)) e
 

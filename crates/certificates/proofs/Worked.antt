@@ -4,7 +4,8 @@ use Prim.Native.Nat.{ℕ}
 use mathlib.Core.Path.{_≡_, refl}
 use mathlib.Core.Bool.{true, false}
 use mathlib.Core.List.{List, [], _∷_, _++_, map}
-use lib.ListN.{replicate}
+use mathlib.Core.Option.{none, some}
+use lib.ListN.{length, replicate}
 use Rattle.lists.specs.Bytes.{all, any, lowerOf}
 use Rattle.lists.specs.Equal.{agree, sameByte, sameLetter}
 use Rattle.lists.specs.Split.{split, toFirst, indexOf}
@@ -15,7 +16,7 @@ use Rattle.numbers.specs.Pieces.{cut, numbered, sumsTo, upTo}
 use Rattle.tlsa.specs.Record.{short, isUsage, isSelector, dataFits, usable}
 use Rattle.certificates.specs.Facts.{Presented, certificateAt, certificatesOf, presentedOf}
 use Rattle.certificates.specs.Limits.{certificateFits, totalOf, chainKeepsLimits, commonNameFits, namesKeepLimits, oneForEach, chainFits, namesFit, factsFit, yesNo}
-use Rattle.certificates.specs.Checks.{byType, compared, matchesCertificate, matchesOnPath, recordMatches, references, leafNames, namesReference, danePasses, showsHost}
+use Rattle.certificates.specs.Checks.{byType, compared, matchesCertificate, matchesOnPath, recordMatches, furtherReference, references, leafNames, namesReference, danePasses, showsHost}
 use Rattle.certificates.specs.declared.Origin.the-variants.{SecureMx, InsecureMx, NoMx}
 
 abbrev chain : List ℕ
@@ -51,10 +52,10 @@ one r = r ∷ []
 
 -- a base domain that the DNS-ID matches, and one that it does not
 abbrev mx : List (List ℕ)
-mx = references InsecureMx (text "mx.example.com") []
+mx = references InsecureMx (text "mx.example.com") [] none
 
 abbrev other : List (List ℕ)
-other = references InsecureMx (text "mx.example.net") []
+other = references InsecureMx (text "mx.example.net") [] none
 
 -- Usage 3, each selector and matching type, with no name at all; then data that differ, and the second certificate's.
 usage-3 :
@@ -106,16 +107,45 @@ abbrev names : List ℕ → List ℕ → Presented
 names dnsIds lengths = presentedOf [] [] [] [] [] true dnsIds lengths true (text "example.org")
 
 naming :
-    namesReference (references SecureMx (text "mx.example.com") (text "Example.org")) (names (text "example.org") (written (11 ∷ [])))
-    ∷ namesReference (references NoMx (text "mx.example.com") (text "example.org")) (names (text "a.example.org" ++ text "example.org") (written (13 ∷ 11 ∷ [])))
-    ∷ namesReference (references InsecureMx (text "mx.example.com") (text "example.org")) (names (text "example.org") (written (11 ∷ [])))
-    ∷ namesReference (references InsecureMx (text "example.org") []) (names [] [])
-    ∷ namesReference (references InsecureMx (text "example.org") []) (names (text "a.b") (written (3 ∷ [])))
-    ∷ namesReference (references InsecureMx (text "example.org") []) (names [] (written (0 ∷ [])))
+    namesReference (references SecureMx (text "mx.example.com") (text "Example.org") none) (names (text "example.org") (written (11 ∷ [])))
+    ∷ namesReference (references NoMx (text "mx.example.com") (text "example.org") none) (names (text "a.example.org" ++ text "example.org") (written (13 ∷ 11 ∷ [])))
+    ∷ namesReference (references InsecureMx (text "mx.example.com") (text "example.org") none) (names (text "example.org") (written (11 ∷ [])))
+    ∷ namesReference (references InsecureMx (text "example.org") [] none) (names [] [])
+    ∷ namesReference (references InsecureMx (text "example.org") [] none) (names (text "a.b") (written (3 ∷ [])))
+    ∷ namesReference (references InsecureMx (text "example.org") [] none) (names [] (written (0 ∷ [])))
     ∷ []
     ≡ true ∷ true ∷ false ∷ true ∷ false ∷ false ∷ []
 unfolding namesReference references leafNames any agree sameLetter lowerOf presentedOf cut numbers written matchesName isName isStarred isWildcard isLabel labelByte all split toFirst indexOf
 naming = refl
+
+-- RFC 7672, 3.2.2: mail to exchange.example.org, an alias of example.com, through mx10.example.com accepts these three names, whatever their case, and no other.
+abbrev through-mx10 : List ℕ → Presented
+through-mx10 id = presentedOf [] [] [] [] [] true id (written (length id ∷ [])) false []
+
+expanded-next-hop :
+    map (λ (id : List ℕ). namesReference (references SecureMx (text "mx10.example.com") (text "exchange.example.org") (some (text "example.com"))) (through-mx10 id))
+    (text "exchange.example.org" ∷ text "example.com" ∷ text "mx10.example.com" ∷ text "EXAMPLE.com"
+    ∷ text "mail.example.org" ∷ text "example.org" ∷ text "mx15.example.com" ∷ text "www.example.com" ∷ [])
+    ≡ true ∷ true ∷ true ∷ true ∷ false ∷ false ∷ false ∷ false ∷ []
+unfolding namesReference furtherReference references leafNames any agree sameLetter lowerOf presentedOf cut numbers written matchesName isName isStarred isWildcard isLabel labelByte all split toFirst indexOf
+expanded-next-hop = refl
+
+-- The references themselves: none is further with insecure MX, with no MX, or where the expanded next-hop is the next-hop in whatever case.
+further-references :
+    references SecureMx (text "mx.a") (text "b.c") (some (text "d.e"))
+    ∷ references InsecureMx (text "mx.a") (text "b.c") (some (text "d.e"))
+    ∷ references NoMx (text "mx.a") (text "b.c") (some (text "d.e"))
+    ∷ references SecureMx (text "mx.a") (text "b.c") (some (text "B.c"))
+    ∷ references SecureMx (text "mx.a") (text "b.c") none
+    ∷ []
+    ≡ (text "mx.a" ∷ text "b.c" ∷ text "d.e" ∷ [])
+    ∷ (text "mx.a" ∷ [])
+    ∷ (text "mx.a" ∷ text "b.c" ∷ [])
+    ∷ (text "mx.a" ∷ text "b.c" ∷ [])
+    ∷ (text "mx.a" ∷ text "b.c" ∷ [])
+    ∷ []
+unfolding furtherReference references agree sameLetter lowerOf
+further-references = refl
 
 -- MTA-STS: a trusted root and a DNS-ID that matches the host; no root, another host, no certificate, the common name alone.
 hosts :

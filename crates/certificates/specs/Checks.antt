@@ -6,7 +6,7 @@ use mathlib.Core.Option.{Option, none, some}
 use lib.Dec.{eqb, ltb}
 use lib.ListN.{length, take, drop}
 use Rattle.lists.specs.Bytes.{any}
-use Rattle.lists.specs.Equal.{sameBytes}
+use Rattle.lists.specs.Equal.{sameBytes, sameText}
 use Rattle.names.specs.Name.{someMatches}
 use Rattle.tlsa.specs.Record.{usageOf, selectorOf, matchingTypeOf, dataOf, counts}
 use Rattle.certificates.specs.Facts.{Certificate, keyInfo, Presented}
@@ -45,11 +45,16 @@ recordMatches named certs r =
     eqb (usageOf r) 3 && any (matchesCertificate r) (leafOf certs)
     || eqb (usageOf r) 2 && named && any (matchesOnPath r) (afterLeaf certs)
 
--- References: the TLSA base domain; with secure MX or no MX also the next-hop.
-unfoldable pub references : Origin → (domain nextHop : List ℕ) → List (List ℕ)
-references SecureMx domain nextHop = domain ∷ nextHop ∷ []
-references InsecureMx domain nextHop = domain ∷ []
-references NoMx domain nextHop = domain ∷ nextHop ∷ []
+-- The fully expanded next-hop, or none, as a further reference: when it differs from the next-hop. ASCII case is no difference.
+unfoldable pub furtherReference : (nextHop : List ℕ) (expandedNextHop : Option (List ℕ)) → List (List ℕ)
+furtherReference nextHop none = []
+furtherReference nextHop (some expanded) = cond (sameText expanded nextHop) [] (expanded ∷ [])
+
+-- References: the TLSA base domain; with secure MX or no MX also the next-hop; with secure MX also the fully expanded next-hop (RFC 7672, 3.2.2).
+unfoldable pub references : Origin → (domain nextHop : List ℕ) (expandedNextHop : Option (List ℕ)) → List (List ℕ)
+references SecureMx domain nextHop expandedNextHop = domain ∷ nextHop ∷ furtherReference nextHop expandedNextHop
+references InsecureMx domain nextHop expandedNextHop = domain ∷ []
+references NoMx domain nextHop expandedNextHop = domain ∷ nextHop ∷ []
 
 -- The names that count: the DNS-IDs; the common name only where there is no DNS-ID.
 unfoldable pub leafNames : List (List ℕ) → Option (List ℕ) → List (List ℕ)

@@ -56,9 +56,13 @@ certificatesOf certificates lengths keyPlaces digests paths = numbered (certific
 abbrev pub dnsIdsOf : List ℕ → List ℕ → List (List ℕ)
 dnsIdsOf dnsIds lengths = cut dnsIds (numbers lengths)
 
--- The common name, or none: where none is given, the bytes in its place are not looked at.
+-- What is given, or none: where it is not given, what stands in its place is not looked at.
+abbrev pub when : {A : Type 0} → Bool → A → Option A
+when given a = cond given (some a) none
+
+-- The common name, or none.
 abbrev pub commonNameOf : Bool → List ℕ → Option (List ℕ)
-commonNameOf given name = cond given (some name) none
+commonNameOf given name = when given name
 
 -- The facts that the arguments of a call give, in the call's order.
 unfoldable pub presentedOf : (certificates certificateLengths keyPlaces digests paths : List ℕ) (trustedRoot : Bool) (dnsIds dnsIdLengths : List ℕ) (commonNameGiven : Bool) (commonName : List ℕ) → Presented

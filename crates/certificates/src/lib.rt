@@ -1,7 +1,7 @@
 // Certificate facts: their limits, and what DANE and MTA-STS ask of them (RFC 7672, RFC 8461).
 ghost use mathlib.Core.Path.{_≡_};
 ghost use mathlib.Core.Bool.{true, false};
-ghost use mathlib.Core.List.{[]};
+ghost use mathlib.Core.List.{[], _∷_};
 ghost use Prim.Native.Nat.{_+_, _*_, _-_, _<_, _≤_};
 ghost use lib.Dec.{eqb, leb};
 ghost use lib.ListN.{length, getD, take, drop};
@@ -11,10 +11,10 @@ ghost use Rattle.numbers.specs.Numbers.{numbers};
 ghost use Rattle.names.specs.Name.{someMatches};
 ghost use Rattle.tlsa.specs.Record.{matchingTypeOf, usable};
 ghost use Rattle.tlsa.specs.Answer.{recordsOf};
-ghost use Rattle.certificates.specs.Facts.{digestAt, certificateAt, certificatesOf, dnsIdsOf, commonNameOf, presentedOf};
+ghost use Rattle.certificates.specs.Facts.{digestAt, certificateAt, certificatesOf, dnsIdsOf, when, commonNameOf, presentedOf};
 ghost use Rattle.certificates.specs.Limits.{oneForEach, chainFits, namesFit, factsFit, yesNo};
 ghost use Rattle.certificates.specs.Steps.{digestStart, digestOnPath, anyPlace, passes, matchOf, placesFit};
-ghost use Rattle.certificates.specs.Checks.{compared, matchesCertificate, matchesOnPath, leafOf, afterLeaf, references, leafNames, danePasses, showsHost};
+ghost use Rattle.certificates.specs.Checks.{compared, matchesCertificate, matchesOnPath, leafOf, afterLeaf, furtherReference, references, leafNames, danePasses, showsHost};
 
 // The origin of the host list: secure MX, insecure MX, or no MX, where the host is the next-hop itself.
 pub enum Origin {
@@ -332,24 +332,60 @@ fn leaf_names(
     names::matches(common_name, reference)
 }
 
-// Whether it matches one of the references.
-fn names_reference(
-    origin: Origin,
-    domain: &[u8],
+// Whether it matches the next-hop, or the expanded next-hop where that is given and differs.
+fn names_next_hop(
     next_hop: &[u8],
+    expanded_given: bool,
+    expanded_next_hop: &[u8],
     dns_ids: &[u8],
     lengths: &[u8],
     given: bool,
     common_name: &[u8],
 ) -> bool
-    ensures { λ r. ⌜ r ≡ any (someMatches (leafNames (dnsIdsOf (now («dns_ids» .entry)) (now (lengths .entry))) (commonNameOf given (now («common_name» .entry))))) (references origin (now (domain .entry)) (now («next_hop» .entry))) ⌝ }
+    ensures { λ r. ⌜ r ≡ any (someMatches (leafNames (dnsIdsOf (now («dns_ids» .entry)) (now (lengths .entry))) (commonNameOf given (now («common_name» .entry))))) (now («next_hop» .entry) ∷ furtherReference (now («next_hop» .entry)) (when «expanded_given» (now («expanded_next_hop» .entry)))) ⌝ }
+{
+    let named = leaf_names(dns_ids, lengths, given, common_name, next_hop);
+    if named {
+        return true;
+    }
+    if !expanded_given {
+        return false;
+    }
+    let same = lists::equal_ignoring_case(expanded_next_hop, next_hop);
+    if same {
+        return false;
+    }
+    leaf_names(dns_ids, lengths, given, common_name, expanded_next_hop)
+}
+
+// Whether it matches one of the references.
+fn names_reference(
+    origin: Origin,
+    domain: &[u8],
+    next_hop: &[u8],
+    expanded_given: bool,
+    expanded_next_hop: &[u8],
+    dns_ids: &[u8],
+    lengths: &[u8],
+    given: bool,
+    common_name: &[u8],
+) -> bool
+    ensures { λ r. ⌜ r ≡ any (someMatches (leafNames (dnsIdsOf (now («dns_ids» .entry)) (now (lengths .entry))) (commonNameOf given (now («common_name» .entry))))) (references origin (now (domain .entry)) (now («next_hop» .entry)) (when «expanded_given» (now («expanded_next_hop» .entry)))) ⌝ }
 {
     let first = leaf_names(dns_ids, lengths, given, common_name, domain);
     if first {
         return true;
     }
     match origin {
-        Origin::SecureMx => leaf_names(dns_ids, lengths, given, common_name, next_hop),
+        Origin::SecureMx => names_next_hop(
+            next_hop,
+            expanded_given,
+            expanded_next_hop,
+            dns_ids,
+            lengths,
+            given,
+            common_name,
+        ),
         Origin::InsecureMx => false,
         Origin::NoMx => leaf_names(dns_ids, lengths, given, common_name, next_hop),
     }
@@ -362,6 +398,8 @@ pub fn dane_passes(
     origin: Origin,
     domain: &[u8],
     next_hop: &[u8],
+    expanded_given: bool,
+    expanded_next_hop: &[u8],
     certificates: &[u8],
     certificate_lengths: &[u8],
     key_places: &[u8],
@@ -373,7 +411,7 @@ pub fn dane_passes(
     common_name_given: bool,
     common_name: &[u8],
 ) -> bool
-    ensures { λ r. ⌜ r ≡ danePasses (references origin (now (domain .entry)) (now («next_hop» .entry))) (recordsOf (now (lengths .entry)) (now (records .entry))) (presentedOf (now (certificates .entry)) (now («certificate_lengths» .entry)) (now («key_places» .entry)) (now (digests .entry)) (now (paths .entry)) «trusted_root» (now («dns_ids» .entry)) (now («dns_id_lengths» .entry)) «common_name_given» (now («common_name» .entry))) ⌝ }
+    ensures { λ r. ⌜ r ≡ danePasses (references origin (now (domain .entry)) (now («next_hop» .entry)) (when «expanded_given» (now («expanded_next_hop» .entry)))) (recordsOf (now (lengths .entry)) (now (records .entry))) (presentedOf (now (certificates .entry)) (now («certificate_lengths» .entry)) (now («key_places» .entry)) (now (digests .entry)) (now (paths .entry)) «trusted_root» (now («dns_ids» .entry)) (now («dns_id_lengths» .entry)) «common_name_given» (now («common_name» .entry))) ⌝ }
 {
     let found = set_match(
         lengths,
@@ -390,6 +428,8 @@ pub fn dane_passes(
             origin,
             domain,
             next_hop,
+            expanded_given,
+            expanded_next_hop,
             dns_ids,
             dns_id_lengths,
             common_name_given,

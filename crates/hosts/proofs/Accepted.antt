@@ -22,13 +22,13 @@ use Rattle.policies.proofs.Sanity.{isPolicyRefusal, refusal-range, policy-numbe
 use Rattle.tlsa.specs.declared.Lookup.{Lookup}
 use Rattle.tlsa.specs.declared.Lookup.the-variants as L
 use Rattle.tlsa.specs.Answer.{answerOf, answerFits, setFits, recordsOf}
-use Rattle.certificates.specs.Facts.{certificateAt, certificatesOf, commonNameOf, presentedOf}
+use Rattle.certificates.specs.Facts.{certificateAt, certificatesOf, when, commonNameOf, presentedOf}
 use Rattle.certificates.specs.Limits.{chainKeepsLimits, keepsLimits, oneForEach, chainFits, namesFit, factsFit}
 use Rattle.certificates.proofs.Written.{nameOf, facts-limits}
 use Rattle.hosts.specs.declared.HostAnswer.{HostAnswer}
 use Rattle.hosts.specs.Facts.{tlsa, first, second, starttls, handshake, certificates, given}
-use Rattle.hosts.specs.Arguments.{Arguments, originOf, addressOf, isAlias, lookupOf, when, baseOf, presentedIn, factsOf}
-use Rattle.hosts.specs.Call.{ifSupplied, codesFit, clocksFit, hostFits, hostNamesFit, policyFits, answersFit, certificatesFit, checks, refused, checked, walked, hostAnswer}
+use Rattle.hosts.specs.Arguments.{Arguments, originOf, addressOf, isAlias, lookupOf, baseOf, presentedIn, factsOf}
+use Rattle.hosts.specs.Call.{ifSupplied, codesFit, clocksFit, nextHopsFit, hostFits, hostNamesFit, policyFits, answersFit, certificatesFit, checks, refused, checked, walked, hostAnswer}
 use Rattle.hosts.specs.Demands.{isRefusal, IsPassed}
 use Rattle.hosts.proofs.Trees.{GivenOk}
 use Rattle.hosts.proofs.Values.{OkAnswer, sized, okCertificate, OkPresented, Ok}
@@ -38,7 +38,7 @@ use Rattle.hosts.proofs.TwoVerdicts.{OkName}
 pub record Passes (a : Arguments) : Type 0 where
   pub codes : codesFit a ≡ true
   pub clocks : clocksFit a ≡ true
-  pub next-hop : isName (a .nextHop) ≡ true
+  pub next-hop : nextHopsFit a ≡ true
   pub names : hostNamesFit a ≡ true
   pub body : policyFits a ≡ true
   pub answers : answersFit a ≡ true
@@ -90,7 +90,7 @@ module _ (p : ℕ → Bool) (fixed : (p 67 && p 62 && p 60 && p 61 && p 64 && p 
       let f2 = and-left (p 67 && p 62) (p 60) f3 in
       and-intro (refusesBy p (record { passes = codesFit a; refusal = 67 })) _ (or-right (codesFit a) (p 67) (and-left (p 67) (p 62) f2))
       (and-intro (refusesBy p (record { passes = clocksFit a; refusal = 62 })) _ (or-right (clocksFit a) (p 62) (and-right (p 67) (p 62) f2))
-      (and-intro (refusesBy p (record { passes = isName (a .nextHop); refusal = 60 })) _ (or-right (isName (a .nextHop)) (p 60) (and-right (p 67 && p 62) (p 60) f3))
+      (and-intro (refusesBy p (record { passes = nextHopsFit a; refusal = 60 })) _ (or-right (nextHopsFit a) (p 60) (and-right (p 67 && p 62) (p 60) f3))
       (and-intro (refusesBy p (record { passes = hostNamesFit a; refusal = 61 })) _ (or-right (hostNamesFit a) (p 61) (and-right (p 67 && p 62 && p 60) (p 61) f4))
       (and-intro (refusesBy p (record { passes = policyFits a; refusal = policyAnswer (a .body) .number })) _ policy-by
       (and-intro (refusesBy p (record { passes = answersFit a; refusal = 64 })) _ (or-right (answersFit a) (p 64) (and-right (p 67 && p 62 && p 60 && p 61) (p 64) f5))
@@ -102,14 +102,14 @@ unfolding checks all
 each-passes a h =
     let h2 = and-right (codesFit a) _ h in
     let h3 = and-right (clocksFit a) _ h2 in
-    let h4 = and-right (isName (a .nextHop)) _ h3 in
+    let h4 = and-right (nextHopsFit a) _ h3 in
     let h5 = and-right (hostNamesFit a) _ h4 in
     let h6 = and-right (policyFits a) _ h5 in
     let h7 = and-right (answersFit a) _ h6 in
     record {
       codes = and-left (codesFit a) _ h;
       clocks = and-left (clocksFit a) _ h2;
-      next-hop = and-left (isName (a .nextHop)) _ h3;
+      next-hop = and-left (nextHopsFit a) _ h3;
       names = and-left (hostNamesFit a) _ h4;
       body = and-left (policyFits a) _ h5;
       answers = and-left (answersFit a) _ h6;
@@ -132,19 +132,19 @@ accepted-passes a = by-answer-of isRefusal refl fifty-refuses a (λ (r : HostAns
 -- bytes
 
 abbrev pub slices : Arguments → List (List ℕ)
-slices a = a .nextHop ∷ a .host ∷ a .expanded ∷ a .body ∷ a .lengths1 ∷ a .records1 ∷ a .lengths2 ∷ a .records2 ∷ a .certificates ∷ a .certificateLengths ∷ a .keyPlaces ∷ a .digests ∷ a .paths ∷ a .dnsIds ∷ a .dnsIdLengths ∷ a .commonName ∷ []
+slices a = a .nextHop ∷ a .expandedNextHop ∷ a .host ∷ a .expanded ∷ a .body ∷ a .lengths1 ∷ a .records1 ∷ a .lengths2 ∷ a .records2 ∷ a .certificates ∷ a .certificateLengths ∷ a .keyPlaces ∷ a .digests ∷ a .paths ∷ a .dnsIds ∷ a .dnsIdLengths ∷ a .commonName ∷ []
 
 -- the slice at a place, in the boundary's order
-pub slice-bytes : (a : Arguments) → IsPassed a → (i : ℕ) → i < 16 → isBytes (getD (slices a) i []) ≡ true
+pub slice-bytes : (a : Arguments) → IsPassed a → (i : ℕ) → i < 17 → isBytes (getD (slices a) i []) ≡ true
 slice-bytes a h i k = all-at isBytes [] (slices a) i k (holds (all isBytes (slices a)) (h .slices))
 
 abbrev pub numbersIn : Arguments → List ℕ
-numbersIn a = a .numbers .clock ∷ a .numbers .origin ∷ a .numbers .address ∷ a .numbers .«policy_given» ∷ a .numbers .fetched ∷ a .numbers .«tlsa_answers» ∷ a .numbers .«tlsa1_result» ∷ a .numbers .«tlsa2_result» ∷ a .numbers .starttls ∷ a .numbers .handshake ∷ a .numbers .«certificates_given» ∷ a .numbers .«trusted_root» ∷ a .numbers .«common_name_given» ∷ []
+numbersIn a = a .numbers .clock ∷ a .numbers .«expanded_next_hop_given» ∷ a .numbers .origin ∷ a .numbers .address ∷ a .numbers .«policy_given» ∷ a .numbers .fetched ∷ a .numbers .«tlsa_answers» ∷ a .numbers .«tlsa1_result» ∷ a .numbers .«tlsa2_result» ∷ a .numbers .starttls ∷ a .numbers .handshake ∷ a .numbers .«certificates_given» ∷ a .numbers .«trusted_root» ∷ a .numbers .«common_name_given» ∷ []
 
 abbrev pub isNumber : ℕ → Bool
 isNumber n = leb n 18446744073709551615
 
-pub number-fits : (a : Arguments) → IsPassed a → (i : ℕ) → i < 13 → isNumber (getD (numbersIn a) i 0) ≡ true
+pub number-fits : (a : Arguments) → IsPassed a → (i : ℕ) → i < 14 → isNumber (getD (numbersIn a) i 0) ≡ true
 number-fits a h i k = all-at isNumber 0 (numbersIn a) i k (holds (all isNumber (numbersIn a)) (h .numbers))
 
 -- TLSA answers
@@ -207,18 +207,18 @@ supplied false t h e = apart e
 module _ (a : Arguments) (passed : IsPassed a) (p : Passes a) where
   first-ok : leb 1 (a .numbers .«tlsa_answers») ≡ true → OkAnswer (answerOf (lookupOf (a .numbers .«tlsa1_result»)) (a .lengths1) (a .records1))
   unfolding answersFit
-  first-ok e = answer-ok (lookupOf (a .numbers .«tlsa1_result»)) (a .lengths1) (a .records1) (supplied (leb 1 (a .numbers .«tlsa_answers»)) _ (and-left (ifSupplied (leb 1 (a .numbers .«tlsa_answers»)) (answerFits (lookupOf (a .numbers .«tlsa1_result»)) (a .lengths1) (a .records1))) _ (p .answers)) e) (slice-bytes a passed 5 (omega arith))
+  first-ok e = answer-ok (lookupOf (a .numbers .«tlsa1_result»)) (a .lengths1) (a .records1) (supplied (leb 1 (a .numbers .«tlsa_answers»)) _ (and-left (ifSupplied (leb 1 (a .numbers .«tlsa_answers»)) (answerFits (lookupOf (a .numbers .«tlsa1_result»)) (a .lengths1) (a .records1))) _ (p .answers)) e) (slice-bytes a passed 6 (omega arith))
 
   second-ok : leb 2 (a .numbers .«tlsa_answers») ≡ true → OkAnswer (answerOf (lookupOf (a .numbers .«tlsa2_result»)) (a .lengths2) (a .records2))
   unfolding answersFit
-  second-ok e = answer-ok (lookupOf (a .numbers .«tlsa2_result»)) (a .lengths2) (a .records2) (supplied (leb 2 (a .numbers .«tlsa_answers»)) _ (and-right (ifSupplied (leb 1 (a .numbers .«tlsa_answers»)) (answerFits (lookupOf (a .numbers .«tlsa1_result»)) (a .lengths1) (a .records1))) _ (p .answers)) e) (slice-bytes a passed 7 (omega arith))
+  second-ok e = answer-ok (lookupOf (a .numbers .«tlsa2_result»)) (a .lengths2) (a .records2) (supplied (leb 2 (a .numbers .«tlsa_answers»)) _ (and-right (ifSupplied (leb 1 (a .numbers .«tlsa_answers»)) (answerFits (lookupOf (a .numbers .«tlsa1_result»)) (a .lengths1) (a .records1))) _ (p .answers)) e) (slice-bytes a passed 8 (omega arith))
 
   presented-ok : eqb (a .numbers .«certificates_given») 1 ≡ true → OkPresented (presentedIn a)
   unfolding certificatesFit presentedIn
   presented-ok e =
       facts-ok (a .certificates) (a .certificateLengths) (a .keyPlaces) (a .digests) (a .paths) (a .dnsIds) (a .dnsIdLengths) (a .commonName) (eqb (a .numbers .«trusted_root») 1) (eqb (a .numbers .«common_name_given») 1)
       (supplied (eqb (a .numbers .«certificates_given») 1) _ (p .facts) e)
-      (slice-bytes a passed 8 (omega arith)) (slice-bytes a passed 11 (omega arith)) (slice-bytes a passed 13 (omega arith)) (slice-bytes a passed 15 (omega arith))
+      (slice-bytes a passed 9 (omega arith)) (slice-bytes a passed 12 (omega arith)) (slice-bytes a passed 14 (omega arith)) (slice-bytes a passed 16 (omega arith))
 
   -- the facts given keep the limits
   pub given-ok : GivenOk Ok (factsOf a)
@@ -232,12 +232,12 @@ module _ (a : Arguments) (passed : IsPassed a) (p : Passes a) where
   -- the host and, under an alias, the expanded name are names
   pub host-ok : OkName (baseOf a .host)
   unfolding baseOf hostNamesFit
-  host-ok = (and-left (isName (a .host)) (hostFits (originOf (a .numbers .origin)) (a .host) (a .nextHop)) (and-left (isName (a .host) && hostFits (originOf (a .numbers .origin)) (a .host) (a .nextHop)) (ifSupplied (isAlias (addressOf (a .numbers .address))) (isName (a .expanded))) (p .names)), slice-bytes a passed 1 (omega arith))
+  host-ok = (and-left (isName (a .host)) (hostFits (originOf (a .numbers .origin)) (a .host) (a .nextHop)) (and-left (isName (a .host) && hostFits (originOf (a .numbers .origin)) (a .host) (a .nextHop)) (ifSupplied (isAlias (addressOf (a .numbers .address))) (isName (a .expanded))) (p .names)), slice-bytes a passed 2 (omega arith))
 
   pub expanded-ok : isAlias (baseOf a .address) ≡ true → OkName (baseOf a .expanded)
   unfolding baseOf hostNamesFit
   expanded-ok e = go (isAlias (addressOf (a .numbers .address))) (and-right (isName (a .host) && hostFits (originOf (a .numbers .origin)) (a .host) (a .nextHop)) (ifSupplied (isAlias (addressOf (a .numbers .address))) (isName (a .expanded))) (p .names)) e
     where
       go : (x : Bool) → ifSupplied x (isName (a .expanded)) ≡ true → x ≡ true → OkName (cond x (a .expanded) [])
-      go true h t = (h, slice-bytes a passed 2 (omega arith))
+      go true h t = (h, slice-bytes a passed 3 (omega arith))
       go false h t = apart t

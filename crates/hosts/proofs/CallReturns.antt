@@ -8,7 +8,7 @@ use lib.Dec.{eqb}
 use borrow.Author.Needs.{needs}
 use borrow.Author.Tests.{eq-eqb, ne-eqb}
 use Rattle.lists.proofs.Bools.{never}
-use Rattle.names.specs.Name.{isName, someMatches}
+use Rattle.names.specs.Name.{someMatches}
 use Rattle.clock.specs.Clock.{isLive}
 use Rattle.policies.specs.declared.Mode.{Mode}
 use Rattle.policies.specs.declared.Mode.the-variants as M
@@ -22,7 +22,7 @@ use Rattle.hosts.specs.declared.Refusal.{Refusal}
 use Rattle.hosts.specs.declared.Refusal.the-variants as F
 use Rattle.hosts.specs.Rules.{isEnforce, isEnforced, needsMtaSts, patternsOf, isListed}
 use Rattle.hosts.specs.Arguments.{Arguments, held, baseOf, presentedIn, factsOf}
-use Rattle.hosts.specs.Call.{ifSupplied, codesFit, clocksFit, hostNamesFit, policyFits, answersFit, certificatesFit, checks, refused, walked, hostAnswer}
+use Rattle.hosts.specs.Call.{ifSupplied, codesFit, clocksFit, nextHopsFit, hostNamesFit, policyFits, answersFit, certificatesFit, checks, refused, walked, hostAnswer}
 use Rattle.hosts.specs.Stages.{firstPart, lastPart, firstRefusal, lastRefusal, noPolicy, givenPolicy, policyNeeds, saying, walkAnswer}
 use Rattle.hosts.proofs.StagesWalk.{walk-is}
 
@@ -124,9 +124,9 @@ module _ (c k : Bool) (x : HostAnswer) (l : Refusal) (le : l ≡ cond c (cond k 
       go false k e = never cc
 
 -- `judge_host`: f, r, l, e, u are what its calls gave, x is its answer
-module _ (a : Arguments) (f : Refusal) (fe : f ≡ firstRefusal (firstPart (a .numbers) (a .nextHop) (a .host) (a .expanded) (a .paths))) (x : HostAnswer) where
-  first-here : f ≡ cond (codesFit a) (cond (clocksFit a) (cond (isName (a .nextHop)) (cond (hostNamesFit a) F.None (F.Number 61)) (F.Number 60)) (F.Number 62)) (F.Number 67)
-  unfolding firstRefusal codesFit clocksFit hostNamesFit
+module _ (a : Arguments) (f : Refusal) (fe : f ≡ firstRefusal (firstPart (a .numbers) (a .nextHop) (a .expandedNextHop) (a .host) (a .expanded) (a .paths))) (x : HostAnswer) where
+  first-here : f ≡ cond (codesFit a) (cond (clocksFit a) (cond (nextHopsFit a) (cond (hostNamesFit a) F.None (F.Number 61)) (F.Number 60)) (F.Number 62)) (F.Number 67)
+  unfolding firstRefusal codesFit clocksFit nextHopsFit hostNamesFit
   first-here = fe
 
   -- the answer from the last checks on, and from the policy's on
@@ -138,12 +138,12 @@ module _ (a : Arguments) (f : Refusal) (fe : f ≡ firstRefusal (firstPart (a .n
 
   pub call-first : (n : ℕ) → f ≡ Refusal.Number n → x ≡ saying n 0 → x ≡ hostAnswer a
   unfolding hostAnswer checks
-  call-first n z xe = xe ∙ refuses (codesFit a) (clocksFit a) (isName (a .nextHop)) (hostNamesFit a) afterNames f first-here n z
+  call-first n z xe = xe ∙ refuses (codesFit a) (clocksFit a) (nextHopsFit a) (hostNamesFit a) afterNames f first-here n z
 
   module _ (fz : f ≡ Refusal.None) (r : PolicyFor) (re : r ≡ givenPolicy (a .numbers .«policy_given») (a .body) (a .host)) where
     named : x ≡ afterNames → x ≡ hostAnswer a
     unfolding hostAnswer checks
-    named h = h ∙ sym (accepts (codesFit a) (clocksFit a) (isName (a .nextHop)) (hostNamesFit a) afterNames f first-here fz)
+    named h = h ∙ sym (accepts (codesFit a) (clocksFit a) (nextHopsFit a) (hostNamesFit a) afterNames f first-here fz)
 
     policy-here : r ≡ cond (eqb (a .numbers .«policy_given») 1) (policyFor (a .body) (a .host)) noPolicy
     unfolding givenPolicy
@@ -172,7 +172,7 @@ module _ (a : Arguments) (f : Refusal) (fe : f ≡ firstRefusal (firstPart (a .n
         unlisted-here : u ≡ (needsMtaSts (baseOf a) && not (isListed (baseOf a)))
         unlisted-here = ue ∙ rw (needs-here, re) (unlisted-is a)
 
-        pub call-walk : x ≡ walkAnswer (a .numbers) e u (a .nextHop) (a .host) (a .expanded) (a .lengths1) (a .records1) (a .lengths2) (a .records2) (presentedOf (a .certificates) (a .certificateLengths) (a .keyPlaces) (a .digests) (a .paths) (eqb (a .numbers .«trusted_root») 1) (a .dnsIds) (a .dnsIdLengths) (eqb (a .numbers .«common_name_given») 1) (a .commonName)) → x ≡ hostAnswer a
+        pub call-walk : x ≡ walkAnswer (a .numbers) e u (a .nextHop) (a .expandedNextHop) (a .host) (a .expanded) (a .lengths1) (a .records1) (a .lengths2) (a .records2) (presentedOf (a .certificates) (a .certificateLengths) (a .keyPlaces) (a .digests) (a .paths) (eqb (a .numbers .«trusted_root») 1) (a .dnsIds) (a .dnsIdLengths) (eqb (a .numbers .«common_name_given») 1) (a .commonName)) → x ≡ hostAnswer a
         unfolding presentedIn
         call-walk xe = read (xe ∙ rw (needs-here, unlisted-here) (sym (walk-is a)) ∙ sym (last-accepts (answersFit a) (certificatesFit a) (walked (factsOf a)) l last-here lz))
 

@@ -19,7 +19,7 @@ use Rattle.certificates.specs.Limits.{yesNo, factsFit}
 use Rattle.hosts.specs.declared.Refusal.{Refusal}
 use Rattle.hosts.specs.declared.Numbers.{Numbers}
 use Rattle.hosts.specs.Arguments.{Arguments, originOf, addressOf, isAlias, lookupOf}
-use Rattle.hosts.specs.Call.{ifSupplied, hostFits, codesFit, clocksFit, hostNamesFit, answersFit, certificatesFit}
+use Rattle.hosts.specs.Call.{ifSupplied, hostFits, codesFit, clocksFit, nextHopsFit, hostNamesFit, answersFit, certificatesFit}
 use Rattle.hosts.specs.Stages.{baseCodesFit, laterCodesFit, certificateCodesFit, firstPart, lastPart, firstRefusal, lastRefusal}
 
 -- what is supplied is tested, what is not passes: `result_fits`, `answer_fits`, `certificates_fit`
@@ -36,27 +36,32 @@ pub ruleset supplied-laws = (supplied-is, supplied-not, not-true, not-false, nee
 
 pub ruleset answer-laws = (answer-is, supplied-not, not-true, not-false, needs)
 
--- `base_codes_fit`: o, a, p are what its calls gave
-module _ (n : Numbers) (o : Bool) (oe : o ≡ within 1 3 (n .origin)) where
-  pub base-origin : o ≡ false → false ≡ baseCodesFit n
+-- `base_codes_fit`: x, o, a, p are what its calls gave
+module _ (n : Numbers) (x : Bool) (xe : x ≡ within 1 2 (n .«expanded_next_hop_given»)) where
+  pub base-expanded : x ≡ false → false ≡ baseCodesFit n
   unfolding baseCodesFit
-  base-origin t = cc
+  base-expanded t = cc
 
-  module _ (ot : o ≡ true) (a : Bool) (ae : a ≡ within 1 7 (n .address)) where
-    pub base-address : a ≡ false → false ≡ baseCodesFit n
+  module _ (xt : x ≡ true) (o : Bool) (oe : o ≡ within 1 3 (n .origin)) where
+    pub base-origin : o ≡ false → false ≡ baseCodesFit n
     unfolding baseCodesFit
-    base-address t = cc
+    base-origin t = cc
 
-    module _ (at : a ≡ true) (p : Bool) (pe : p ≡ within 1 2 (n .«policy_given»)) where
-      pub base-policy : p ≡ false → false ≡ baseCodesFit n
+    module _ (ot : o ≡ true) (a : Bool) (ae : a ≡ within 1 7 (n .address)) where
+      pub base-address : a ≡ false → false ≡ baseCodesFit n
       unfolding baseCodesFit
-      base-policy t = cc
+      base-address t = cc
 
-      pub base-answers : p ≡ true → leb (n .«tlsa_answers») 2 ≡ baseCodesFit n
-      unfolding baseCodesFit
-      base-answers t = cc
+      module _ (at : a ≡ true) (p : Bool) (pe : p ≡ within 1 2 (n .«policy_given»)) where
+        pub base-policy : p ≡ false → false ≡ baseCodesFit n
+        unfolding baseCodesFit
+        base-policy t = cc
 
-pub ruleset base-laws = (base-origin, base-address, base-policy, base-answers, not-true, not-false, needs)
+        pub base-answers : p ≡ true → leb (n .«tlsa_answers») 2 ≡ baseCodesFit n
+        unfolding baseCodesFit
+        base-answers t = cc
+
+pub ruleset base-laws = (base-expanded, base-origin, base-address, base-policy, base-answers, not-true, not-false, needs)
 
 -- `later_codes_fit`: f, s are what its calls gave
 module _ (n : Numbers) (f : Bool) (fe : f ≡ ifSupplied (leb 1 (n .«tlsa_answers»)) (within 1 4 (n .«tlsa1_result»))) where
@@ -137,6 +142,20 @@ module _ (present given fetched : ℕ) (t : Bool) (te : t ≡ isReading present)
 
 pub ruleset clocks-laws = (clocks-present, clocks-alone, clocks-fetched, not-true, not-false, needs)
 
+-- `next_hops_fit`: t is what its first call gave
+module _ (hop further : List ℕ) (given t : Bool) (te : t ≡ isName hop) where
+  pub hops-first : t ≡ false → false ≡ (isName hop && ifSupplied given (isName further))
+  hops-first h = cc
+
+  module _ (tt : t ≡ true) where
+    pub hops-alone : given ≡ false → true ≡ (isName hop && ifSupplied given (isName further))
+    hops-alone h = cc
+
+    pub hops-both : given ≡ true → (r : Bool) → r ≡ isName further → r ≡ (isName hop && ifSupplied given (isName further))
+    hops-both h r e = cc
+
+pub ruleset hops-laws = (hops-first, hops-alone, hops-both, not-true, not-false, needs)
+
 -- `host_fits`
 module _ (origin : Origin) (host hop : List ℕ) where
   pub host-secure : origin ≡ Origin.SecureMx → true ≡ hostFits origin host hop
@@ -152,21 +171,21 @@ pub ruleset host-laws = (host-secure, host-insecure, host-same, needs)
 
 -- `host_names_fit`: t, o, f, d, s are what its calls gave
 module _ (n : Numbers) (hop host expanded : List ℕ) (t : Bool) (te : t ≡ isName host) where
-  pub names-host : t ≡ false → false ≡ hostNamesFit (firstPart n hop host expanded [])
+  pub names-host : t ≡ false → false ≡ hostNamesFit (firstPart n hop [] host expanded [])
   unfolding hostNamesFit
   names-host h = cc
 
   module _ (tt : t ≡ true) (o : Origin) (oe : o ≡ originOf (n .origin)) (f : Bool) (fe : f ≡ hostFits o host hop) where
-    pub names-same : f ≡ false → false ≡ hostNamesFit (firstPart n hop host expanded [])
+    pub names-same : f ≡ false → false ≡ hostNamesFit (firstPart n hop [] host expanded [])
     unfolding hostNamesFit
     names-same h = cc
 
     module _ (ft : f ≡ true) (d : Address) (de : d ≡ addressOf (n .address)) (s : Bool) (se : s ≡ isAlias d) where
-      pub names-plain : s ≡ false → true ≡ hostNamesFit (firstPart n hop host expanded [])
+      pub names-plain : s ≡ false → true ≡ hostNamesFit (firstPart n hop [] host expanded [])
       unfolding hostNamesFit
       names-plain h = cc
 
-      pub names-alias : s ≡ true → (r : Bool) → r ≡ isName expanded → r ≡ hostNamesFit (firstPart n hop host expanded [])
+      pub names-alias : s ≡ true → (r : Bool) → r ≡ isName expanded → r ≡ hostNamesFit (firstPart n hop [] host expanded [])
       unfolding hostNamesFit
       names-alias h r e = cc
 
@@ -178,40 +197,44 @@ unfolding codesFit baseCodesFit laterCodesFit certificateCodesFit
 codes-are a = simp and-assoc
 
 -- `first_refusal`: c, k, m, h are what its calls gave
-module _ (n : Numbers) (hop host expanded Q : List ℕ) (c : Bool) (ce : c ≡ (baseCodesFit n && laterCodesFit n && certificateCodesFit n Q)) where
-  codes-here : c ≡ codesFit (firstPart n hop host expanded Q)
-  codes-here = ce ∙ codes-are (firstPart n hop host expanded Q)
+module _ (n : Numbers) (hop further host expanded Q : List ℕ) (c : Bool) (ce : c ≡ (baseCodesFit n && laterCodesFit n && certificateCodesFit n Q)) where
+  codes-here : c ≡ codesFit (firstPart n hop further host expanded Q)
+  codes-here = ce ∙ codes-are (firstPart n hop further host expanded Q)
 
-  pub first-67 : c ≡ false → Refusal.Number 67 ≡ firstRefusal (firstPart n hop host expanded Q)
+  pub first-67 : c ≡ false → Refusal.Number 67 ≡ firstRefusal (firstPart n hop further host expanded Q)
   unfolding firstRefusal
   first-67 t = cc (codes-here)
 
   module _ (ct : c ≡ true) (k : Bool) (ke : k ≡ (isReading (n .clock) && ifSupplied (eqb (n .«policy_given») 1) (isReading (n .fetched)))) where
-    clocks-here : k ≡ clocksFit (firstPart n hop host expanded Q)
+    clocks-here : k ≡ clocksFit (firstPart n hop further host expanded Q)
     unfolding clocksFit
     clocks-here = ke
 
-    pub first-62 : k ≡ false → Refusal.Number 62 ≡ firstRefusal (firstPart n hop host expanded Q)
+    pub first-62 : k ≡ false → Refusal.Number 62 ≡ firstRefusal (firstPart n hop further host expanded Q)
     unfolding firstRefusal
     first-62 t = cc (codes-here, clocks-here)
 
-    module _ (kt : k ≡ true) (m : Bool) (me : m ≡ isName hop) where
-      pub first-60 : m ≡ false → Refusal.Number 60 ≡ firstRefusal (firstPart n hop host expanded Q)
-      unfolding firstRefusal
-      first-60 t = cc (codes-here, clocks-here)
+    module _ (kt : k ≡ true) (m : Bool) (me : m ≡ (isName hop && ifSupplied (eqb (n .«expanded_next_hop_given») 1) (isName further))) where
+      hops-here : m ≡ nextHopsFit (firstPart n hop further host expanded Q)
+      unfolding nextHopsFit
+      hops-here = me
 
-      module _ (mt : m ≡ true) (h : Bool) (he : h ≡ hostNamesFit (firstPart n hop host expanded [])) where
-        names-here : h ≡ hostNamesFit (firstPart n hop host expanded Q)
+      pub first-60 : m ≡ false → Refusal.Number 60 ≡ firstRefusal (firstPart n hop further host expanded Q)
+      unfolding firstRefusal
+      first-60 t = cc (codes-here, clocks-here, hops-here)
+
+      module _ (mt : m ≡ true) (h : Bool) (he : h ≡ hostNamesFit (firstPart n hop [] host expanded [])) where
+        names-here : h ≡ hostNamesFit (firstPart n hop further host expanded Q)
         unfolding hostNamesFit
         names-here = he
 
-        pub first-61 : h ≡ false → Refusal.Number 61 ≡ firstRefusal (firstPart n hop host expanded Q)
+        pub first-61 : h ≡ false → Refusal.Number 61 ≡ firstRefusal (firstPart n hop further host expanded Q)
         unfolding firstRefusal
-        first-61 t = cc (codes-here, clocks-here, names-here)
+        first-61 t = cc (codes-here, clocks-here, hops-here, names-here)
 
-        pub first-none : h ≡ true → Refusal.None ≡ firstRefusal (firstPart n hop host expanded Q)
+        pub first-none : h ≡ true → Refusal.None ≡ firstRefusal (firstPart n hop further host expanded Q)
         unfolding firstRefusal
-        first-none t = cc (codes-here, clocks-here, names-here)
+        first-none t = cc (codes-here, clocks-here, hops-here, names-here)
 
 pub ruleset first-laws = (first-67, first-62, first-60, first-61, first-none, not-true, not-false, needs)
 

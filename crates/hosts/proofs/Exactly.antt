@@ -8,7 +8,6 @@ use lib.Dec.{eqb}
 use borrow.Author.Tests.{le-leb, ne-eqb, eqb-true}
 use Rattle.lists.specs.Check.{Check}
 use Rattle.lists.proofs.Bools.{apart}
-use Rattle.names.specs.Name.{isName}
 use Rattle.policies.specs.Policy.{policyAnswer}
 use Rattle.policies.proofs.Sanity.{isPolicyRefusal, refusal-range}
 use Rattle.verdicts.specs.Verdicts.{isVerdict}
@@ -17,7 +16,7 @@ use Rattle.hosts.specs.Facts.{Facts, later}
 use Rattle.hosts.specs.Tree.{Outcome, final, missing, walk, answersRead}
 use Rattle.hosts.specs.Rules.{rules}
 use Rattle.hosts.specs.Arguments.{Arguments, baseOf, factsOf}
-use Rattle.hosts.specs.Call.{codesFit, clocksFit, hostNamesFit, policyFits, answersFit, certificatesFit, checks, refused, checked, outcomeAnswer, walked, hostAnswer}
+use Rattle.hosts.specs.Call.{codesFit, clocksFit, nextHopsFit, hostNamesFit, policyFits, answersFit, certificatesFit, checks, refused, checked, outcomeAnswer, walked, hostAnswer}
 use Rattle.hosts.specs.Demands.{isRefusal}
 use Rattle.hosts.proofs.Trees.{Comes, comes}
 use Rattle.hosts.proofs.Shape.{isQuestion, verdict-no-refusal, question-no-refusal, each-rules}
@@ -95,7 +94,7 @@ module _ (a : Arguments) where
   from-61 n = cond (hostNamesFit a) (from-50 n) (eqb 61 n)
 
   abbrev from-60 : ℕ → Bool
-  from-60 n = cond (isName (a .nextHop)) (from-61 n) (eqb 60 n)
+  from-60 n = cond (nextHopsFit a) (from-61 n) (eqb 60 n)
 
   abbrev from-62 : ℕ → Bool
   from-62 n = cond (clocksFit a) (from-60 n) (eqb 62 n)
@@ -126,7 +125,7 @@ module _ (a : Arguments) where
   no-61 n p q = none (hostNamesFit a) (from-50 n) (eqb 61 n) p (λ e. q)
 
   no-60 : (n : ℕ) → from-61 n ≡ false → eqb 60 n ≡ false → from-60 n ≡ false
-  no-60 n p q = none (isName (a .nextHop)) (from-61 n) (eqb 60 n) p (λ e. q)
+  no-60 n p q = none (nextHopsFit a) (from-61 n) (eqb 60 n) p (λ e. q)
 
   no-62 : (n : ℕ) → from-60 n ≡ false → eqb 62 n ≡ false → from-62 n ≡ false
   no-62 n p q = none (clocksFit a) (from-60 n) (eqb 62 n) p (λ e. q)
@@ -138,8 +137,8 @@ module _ (a : Arguments) where
   clocks-then : (u v : Bool) → u ≡ v → cond (clocksFit a) u false ≡ (clocksFit a && v)
   clocks-then u v e = step (clocksFit a) u ∙ ap (λ (x : Bool). clocksFit a && x) e
 
-  next-hop-then : (u v : Bool) → u ≡ v → cond (isName (a .nextHop)) u false ≡ (isName (a .nextHop) && v)
-  next-hop-then u v e = step (isName (a .nextHop)) u ∙ ap (λ (x : Bool). isName (a .nextHop) && x) e
+  next-hop-then : (u v : Bool) → u ≡ v → cond (nextHopsFit a) u false ≡ (nextHopsFit a && v)
+  next-hop-then u v e = step (nextHopsFit a) u ∙ ap (λ (x : Bool). nextHopsFit a && x) e
 
   host-then : (u v : Bool) → u ≡ v → cond (hostNamesFit a) u false ≡ (hostNamesFit a && v)
   host-then u v e = step (hostNamesFit a) u ∙ ap (λ (x : Bool). hostNamesFit a && x) e
@@ -162,14 +161,14 @@ module _ (a : Arguments) where
   pub exactly-62 : eqb (hostAnswer a .number) 62 ≡ (codesFit a && not (clocksFit a))
   exactly-62 = number-from 62 refl ∙ codes-then (from-62 62) (not (clocksFit a)) (here (clocksFit a) (from-60 62) (no-60 62 (no-61 62 (no-50 62 refl refl refl refl) refl) refl))
 
-  pub exactly-60 : eqb (hostAnswer a .number) 60 ≡ (codesFit a && (clocksFit a && not (isName (a .nextHop))))
-  exactly-60 = number-from 60 refl ∙ codes-then (from-62 60) _ (clocks-then (from-60 60) _ (here (isName (a .nextHop)) (from-61 60) (no-61 60 (no-50 60 refl refl refl refl) refl)))
+  pub exactly-60 : eqb (hostAnswer a .number) 60 ≡ (codesFit a && (clocksFit a && not (nextHopsFit a)))
+  exactly-60 = number-from 60 refl ∙ codes-then (from-62 60) _ (clocks-then (from-60 60) _ (here (nextHopsFit a) (from-61 60) (no-61 60 (no-50 60 refl refl refl refl) refl)))
 
-  pub exactly-61 : eqb (hostAnswer a .number) 61 ≡ (codesFit a && (clocksFit a && (isName (a .nextHop) && not (hostNamesFit a))))
+  pub exactly-61 : eqb (hostAnswer a .number) 61 ≡ (codesFit a && (clocksFit a && (nextHopsFit a && not (hostNamesFit a))))
   exactly-61 = number-from 61 refl ∙ codes-then (from-62 61) _ (clocks-then (from-60 61) _ (next-hop-then (from-61 61) _ (here (hostNamesFit a) (from-50 61) (no-50 61 refl refl refl refl))))
 
   -- 50, 52 to 57: a policy that is not accepted, by its own number
-  pub exactly-policy : (n : ℕ) → isPolicyRefusal n ≡ true → eqb (hostAnswer a .number) n ≡ (codesFit a && (clocksFit a && (isName (a .nextHop) && (hostNamesFit a && (not (policyFits a) && eqb (policyAnswer (a .body) .number) n)))))
+  pub exactly-policy : (n : ℕ) → isPolicyRefusal n ≡ true → eqb (hostAnswer a .number) n ≡ (codesFit a && (clocksFit a && (nextHopsFit a && (hostNamesFit a && (not (policyFits a) && eqb (policyAnswer (a .body) .number) n)))))
   exactly-policy n h =
       let l = refusal-range n h .0 in
       let u = refusal-range n h .1 in
@@ -180,12 +179,12 @@ module _ (a : Arguments) where
       go : 50 ≤ n → isRefusal n ≡ true
       go k = le-leb 40 n (omega arith)
 
-  pub exactly-64 : eqb (hostAnswer a .number) 64 ≡ (codesFit a && (clocksFit a && (isName (a .nextHop) && (hostNamesFit a && (policyFits a && not (answersFit a))))))
+  pub exactly-64 : eqb (hostAnswer a .number) 64 ≡ (codesFit a && (clocksFit a && (nextHopsFit a && (hostNamesFit a && (policyFits a && not (answersFit a))))))
   exactly-64 = number-from 64 refl ∙ codes-then (from-62 64) _ (clocks-then (from-60 64) _ (next-hop-then (from-61 64) _ (host-then (from-50 64) _ (policy-then 64 (from-64 64) _ refl (here (answersFit a) (from-65 64) (no-65 64 refl refl))))))
 
-  pub exactly-65 : eqb (hostAnswer a .number) 65 ≡ (codesFit a && (clocksFit a && (isName (a .nextHop) && (hostNamesFit a && (policyFits a && (answersFit a && not (certificatesFit a)))))))
+  pub exactly-65 : eqb (hostAnswer a .number) 65 ≡ (codesFit a && (clocksFit a && (nextHopsFit a && (hostNamesFit a && (policyFits a && (answersFit a && not (certificatesFit a)))))))
   exactly-65 = number-from 65 refl ∙ codes-then (from-62 65) _ (clocks-then (from-60 65) _ (next-hop-then (from-61 65) _ (host-then (from-50 65) _ (policy-then 65 (from-64 65) _ refl (answers-then (from-65 65) _ (here (certificatesFit a) (gap && false) (and-false gap)))))))
 
   -- 66, last: every check passes, and the walk misses a fact while a later one is given
-  pub exactly-66 : eqb (hostAnswer a .number) 66 ≡ (codesFit a && (clocksFit a && (isName (a .nextHop) && (hostNamesFit a && (policyFits a && (answersFit a && (certificatesFit a && gap)))))))
+  pub exactly-66 : eqb (hostAnswer a .number) 66 ≡ (codesFit a && (clocksFit a && (nextHopsFit a && (hostNamesFit a && (policyFits a && (answersFit a && (certificatesFit a && gap)))))))
   exactly-66 = number-from 66 refl ∙ codes-then (from-62 66) _ (clocks-then (from-60 66) _ (next-hop-then (from-61 66) _ (host-then (from-50 66) _ (policy-then 66 (from-64 66) _ refl (answers-then (from-65 66) _ (step (certificatesFit a) (gap && true) ∙ ap (λ (x : Bool). certificatesFit a && x) (and-true gap)))))))

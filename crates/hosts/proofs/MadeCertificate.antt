@@ -3,7 +3,7 @@ use Prim.Native.Nat.{ℕ, _+_, _≤_}
 use mathlib.Core.Path.{_≡_, refl, sym, _∙_, ap}
 use mathlib.Core.Bool.{Bool, true, false, not, cond, _&&_, _||_}
 use mathlib.Core.List.{List, [], _∷_}
-use mathlib.Core.Option.{none}
+use mathlib.Core.Option.{Option, none}
 use native.Mathlib.Omega.{arith}
 use lib.Dec.{eqb, leb}
 use lib.ListN.{length, take, replicate}
@@ -112,11 +112,11 @@ module _ (d domain host : List ℕ) (is-domain : isName domain ≡ true) (is-hos
   showing-ok l h m n = record { limits = showing-fits l; each = rw (forged-ok d h); ids = rw (m, n); name = refl }
 
   -- they name the domain, whatever else is a reference, and they show the host
-  showing-names : (o : Origin) (nextHop : List ℕ) → namesReference (references o domain nextHop) (showing d domain host) ≡ true
+  showing-names : (o : Origin) (nextHop : List ℕ) (further : Option (List ℕ)) → namesReference (references o domain nextHop further) (showing d domain host) ≡ true
   unfolding namesReference references leafNames any
-  showing-names SecureMx nextHop = rw (matches-self domain is-domain)
-  showing-names InsecureMx nextHop = rw (matches-self domain is-domain)
-  showing-names NoMx nextHop = rw (matches-self domain is-domain)
+  showing-names SecureMx nextHop further = rw (matches-self domain is-domain)
+  showing-names InsecureMx nextHop further = rw (matches-self domain is-domain)
+  showing-names NoMx nextHop further = rw (matches-self domain is-domain)
 
   pub showing-host : showsHost host (showing d domain host) ≡ true
   unfolding showsHost any
@@ -135,9 +135,9 @@ module _ (r domain host : List ℕ) (is-domain : isName domain ≡ true) (is-hos
   unfolding any matchesOnPath
   after-matches = or-left (matchesCertificate r (forged (dataOf r))) false (forged-matches r h)
 
-  pub showing-matches : (o : Origin) (nextHop : List ℕ) → recordMatches (namesReference (references o domain nextHop) (showing (dataOf r) domain host)) pair r ≡ true
-  showing-matches o nextHop = go (eqb (usageOf r) 3) refl
+  pub showing-matches : (o : Origin) (nextHop : List ℕ) (further : Option (List ℕ)) → recordMatches (namesReference (references o domain nextHop further) (showing (dataOf r) domain host)) pair r ≡ true
+  showing-matches o nextHop further = go (eqb (usageOf r) 3) refl
     where
-      go : (x : Bool) → eqb (usageOf r) 3 ≡ x → recordMatches (namesReference (references o domain nextHop) (showing (dataOf r) domain host)) pair r ≡ true
-      go true e = matches-3 (namesReference (references o domain nextHop) (showing (dataOf r) domain host)) pair r (eqb-true (usageOf r) 3 e) ∙ leaf-matches
-      go false e = matches-2 (namesReference (references o domain nextHop) (showing (dataOf r) domain host)) pair r (usable-usage-2 r h (eqb-false (usageOf r) 3 e)) ∙ rw (showing-names (dataOf r) domain host is-domain is-host o nextHop) after-matches
+      go : (x : Bool) → eqb (usageOf r) 3 ≡ x → recordMatches (namesReference (references o domain nextHop further) (showing (dataOf r) domain host)) pair r ≡ true
+      go true e = matches-3 (namesReference (references o domain nextHop further) (showing (dataOf r) domain host)) pair r (eqb-true (usageOf r) 3 e) ∙ leaf-matches
+      go false e = matches-2 (namesReference (references o domain nextHop further) (showing (dataOf r) domain host)) pair r (usable-usage-2 r h (eqb-false (usageOf r) 3 e)) ∙ rw (showing-names (dataOf r) domain host is-domain is-host o nextHop further) after-matches

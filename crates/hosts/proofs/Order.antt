@@ -2,13 +2,12 @@
 use Prim.Native.Nat.{ℕ}
 use mathlib.Core.Path.{_≡_, _∙_}
 use mathlib.Core.Bool.{true, false}
-use Rattle.names.specs.Name.{isName}
 use Rattle.policies.specs.Policy.{policyAnswer}
 use Rattle.hosts.specs.Facts.{later}
 use Rattle.hosts.specs.Tree.{Question, final, missing, walk, answersRead}
 use Rattle.hosts.specs.Rules.{rules}
 use Rattle.hosts.specs.Arguments.{Arguments, baseOf, factsOf}
-use Rattle.hosts.specs.Call.{codesFit, clocksFit, hostNamesFit, policyFits, answersFit, certificatesFit, checks, refused, hostAnswer}
+use Rattle.hosts.specs.Call.{codesFit, clocksFit, nextHopsFit, hostNamesFit, policyFits, answersFit, certificatesFit, checks, refused, hostAnswer}
 use Rattle.hosts.proofs.Accepted.{Passes, walks}
 
 module _ (a : Arguments) where
@@ -22,11 +21,11 @@ module _ (a : Arguments) where
     refused-62 e = rw (codes, e)
 
     module _ (clocks : clocksFit a ≡ true) where
-      pub refused-60 : isName (a .nextHop) ≡ false → hostAnswer a ≡ refused 60
+      pub refused-60 : nextHopsFit a ≡ false → hostAnswer a ≡ refused 60
       unfolding hostAnswer checks
       refused-60 e = rw (codes, clocks, e)
 
-      module _ (next-hop : isName (a .nextHop) ≡ true) where
+      module _ (next-hop : nextHopsFit a ≡ true) where
         pub refused-61 : hostNamesFit a ≡ false → hostAnswer a ≡ refused 61
         unfolding hostAnswer checks
         refused-61 e = rw (codes, clocks, next-hop, e)

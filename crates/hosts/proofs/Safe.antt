@@ -83,7 +83,7 @@ module _ (b : Base) (f : Full) where
     pub records : List (List ℕ)
     pub asked : IsAmong (questionAt name place) qs
     pub answered : value f (tlsa place) ≡ secure records
-    pub passes : danePasses (references (b .origin) (domainOf b name) (b .nextHop)) records (f .presented) ≡ true
+    pub passes : danePasses (references (b .origin) (domainOf b name) (b .nextHop) (b .expandedNextHop)) records (f .presented) ≡ true
 
   -- of the answers l to the questions qs
   abbrev Safe : List Answer → List Question → Rules → Type 0

@@ -20,7 +20,7 @@ use Rattle.tlsa.specs.declared.Address.{Address}
 use Rattle.tlsa.specs.declared.Address.the-variants as A
 use Rattle.tlsa.specs.Address.{expandedName, hostName, meaningOf}
 use Rattle.tlsa.specs.Answer.{Answer, secureRecords, answerOf, recordsOf, readOf, takenOf, needsOf}
-use Rattle.certificates.specs.Facts.{Presented}
+use Rattle.certificates.specs.Facts.{Presented, when}
 use Rattle.certificates.specs.Checks.{references, danePasses, showsHost}
 use Rattle.hosts.specs.declared.HostAnswer.{HostAnswer}
 use Rattle.hosts.specs.declared.Numbers.{Numbers}
@@ -31,7 +31,7 @@ use Rattle.hosts.specs.declared.Connection.the-variants as C
 use Rattle.hosts.specs.Facts.{Base, Handshake, established, failed, Place, first, second, tlsa, certificates, Facts, isGiven, later}
 use Rattle.hosts.specs.Tree.{Rules, verdict, ask, missing, onGiven, walk, answersRead}
 use Rattle.hosts.specs.Rules.{needsMtaSts, isListed, mtaStsPasses, Taken, nothing, set, needs, isAuthentication, needsDane, takenPasses, lastVerdict, connect, afterAnswer, seek, start, rules}
-use Rattle.hosts.specs.Arguments.{Arguments, originOf, addressOf, isAlias, lookupOf, offeredOf, outcomeOf, when, baseOf, presentedIn, factsOf}
+use Rattle.hosts.specs.Arguments.{Arguments, originOf, addressOf, isAlias, lookupOf, offeredOf, outcomeOf, baseOf, presentedIn, factsOf}
 use Rattle.hosts.specs.Call.{outcomeAnswer, walked}
 use Rattle.hosts.specs.Stages.{readGiven, laterGiven, saying, noSet, readStage, hostRead, atHost, expandedRead, atExpanded, triesOf, namesStage, firstStage, handshakeStage, connection, certificateVerdict, ended, foundAnswer, reaching, walkAnswer}
 use Rattle.hosts.proofs.WalkReturns.{tries-meaning}
@@ -93,25 +93,25 @@ taken-is L.Insecure lengths records d h = never cc
 taken-is L.Absent lengths records d h = never cc
 taken-is L.Failed lengths records d h = never cc
 
-module _ (n : Numbers) (b : Base) (expanded L1 R1 L2 R2 : List ℕ) (k1 k2 : Bool) (a1 a2 : Answer) (p : Presented) where
+module _ (n : Numbers) (b : Base) (further expanded L1 R1 L2 R2 : List ℕ) (k1 k2 : Bool) (a1 a2 : Answer) (p : Presented) where
   -- the facts of the call
   abbrev these : Facts
   these = facts b (when k1 a1) (when k2 a2) (offeredOf (n .starttls)) (outcomeOf (n .handshake)) (eqb (n .«certificates_given») 1) p
 
   -- what follows from the set that was found
   abbrev follow : Found → HostAnswer
-  follow f = foundAnswer n (needsMtaSts b) f (cond (f .expanded) expanded (b .host)) (b .nextHop) (b .host) (cond (f .second) L2 L1) (cond (f .second) R2 R1) p
+  follow f = foundAnswer n (needsMtaSts b) f (cond (f .expanded) expanded (b .host)) (b .nextHop) further (b .host) (cond (f .second) L2 L1) (cond (f .second) R2 R1) p
 
   -- an answer whose set is taken has these records
   abbrev Takes : Bool → Answer → Type 0
   Takes j a = (d : Needs) → readOf a ≡ R.Taken d → (secureRecords a ≡ recordsOf (cond j L2 L1) (cond j R2 R1)) × (needsOf (recordsOf (cond j L2 L1) (cond j R2 R1)) ≡ d)
 
-  module _ (oe : originOf (n .origin) ≡ b .origin) (listed : (needsMtaSts b && not (isListed b)) ≡ false) where
-    found-is : (s : Taken) (d : Needs) (i j : Bool) (q : ℕ) → needs s ≡ d → (isAuthentication d ≡ true → takenPasses b s p ≡ danePasses (references (b .origin) (cond i expanded (b .host)) (b .nextHop)) (recordsOf (cond j L2 L1) (cond j R2 R1)) p) → outcomeAnswer these q (walk (connect b s) these) ≡ follow (record { needs = d; expanded = i; second = j; questions = q })
+  module _ (oe : originOf (n .origin) ≡ b .origin) (xe : when (eqb (n .«expanded_next_hop_given») 1) further ≡ b .expandedNextHop) (listed : (needsMtaSts b && not (isListed b)) ≡ false) where
+    found-is : (s : Taken) (d : Needs) (i j : Bool) (q : ℕ) → needs s ≡ d → (isAuthentication d ≡ true → takenPasses b s p ≡ danePasses (references (b .origin) (cond i expanded (b .host)) (b .nextHop) (b .expandedNextHop)) (recordsOf (cond j L2 L1) (cond j R2 R1)) p) → outcomeAnswer these q (walk (connect b s) these) ≡ follow (record { needs = d; expanded = i; second = j; questions = q })
     unfolding foundAnswer certificateVerdict mtaStsPasses
     found-is s d i j q de dp =
         connect-is b s (when k1 a1) (when k2 a2) p q (offeredOf (n .starttls)) (outcomeOf (n .handshake)) (eqb (n .«certificates_given») 1)
-        ∙ rw (de, oe, last-same (isAuthentication d) (needsMtaSts b) (isListed b) (takenPasses b s p) (danePasses (references (b .origin) (cond i expanded (b .host)) (b .nextHop)) (recordsOf (cond j L2 L1) (cond j R2 R1)) p) (showsHost (b .host) p) dp listed)
+        ∙ rw (de, oe, xe, last-same (isAuthentication d) (needsMtaSts b) (isListed b) (takenPasses b s p) (danePasses (references (b .origin) (cond i expanded (b .host)) (b .nextHop) (b .expandedNextHop)) (recordsOf (cond j L2 L1) (cond j R2 R1)) p) (showsHost (b .host) p) dp listed)
 
     -- after the last name there is no set
     none-is : (q : ℕ) → outcomeAnswer these q (walk (connect b nothing) these) ≡ reaching follow (noSet q)
@@ -152,7 +152,7 @@ module _ (n : Numbers) (b : Base) (expanded L1 R1 L2 R2 : List ℕ) (k1 k2 : Boo
       both-is ee true = answer-is true false (λ c. 1 + c) 1 refl a1 ok1 (b .expanded) ee (seek b second (hostName ∷ [])) (atHost true 1 s (readGiven (when k2 a2))) next-is (readOf a1) refl
 
   -- 23 goes before the names
-  module _ (oe : originOf (n .origin) ≡ b .origin) (ok1 : Takes false a1) (ok2 : Takes true a2) (f s : Bool) (fe : later (tlsa first) these ≡ f) (se : later (tlsa second) these ≡ s) where
+  module _ (oe : originOf (n .origin) ≡ b .origin) (xe : when (eqb (n .«expanded_next_hop_given») 1) further ≡ b .expandedNextHop) (ok1 : Takes false a1) (ok2 : Takes true a2) (f s : Bool) (fe : later (tlsa first) these ≡ f) (se : later (tlsa second) these ≡ s) where
     listed-is : (u : Bool) → (needsMtaSts b && not (isListed b)) ≡ u → (t : Rules) (x : Stage) → ((needsMtaSts b && not (isListed b)) ≡ false → outcomeAnswer these (answersRead t these) (walk t these) ≡ reaching follow x) → outcomeAnswer these (answersRead (cond u (verdict 23) t) these) (walk (cond u (verdict 23) t) these) ≡ reaching follow (cond u (S.Answered (saying 23 0)) x)
     listed-is true ue t x h = refl
     listed-is false ue t x h = h ue
@@ -163,13 +163,13 @@ module _ (n : Numbers) (b : Base) (expanded L1 R1 L2 R2 : List ℕ) (k1 k2 : Boo
     names-are AddressMissing ee = refl
     names-are NoName ee =
         listed-is (needsMtaSts b && not (isListed b)) refl (connect b nothing) (noSet 0)
-        (λ l. rw (connect-reads b nothing (when k1 a1) (when k2 a2) p (offeredOf (n .starttls)) (outcomeOf (n .handshake)) (eqb (n .«certificates_given») 1)) (none-is oe l 0))
+        (λ l. rw (connect-reads b nothing (when k1 a1) (when k2 a2) p (offeredOf (n .starttls)) (outcomeOf (n .handshake)) (eqb (n .«certificates_given») 1)) (none-is oe xe l 0))
     names-are HostOnly ee =
         listed-is (needsMtaSts b && not (isListed b)) refl (seek b first (hostName ∷ [])) (atHost false 0 f (readGiven (when k1 a1)))
-        (λ l. only-is oe l ok1 ok2 f s fe se)
+        (λ l. only-is oe xe l ok1 ok2 f s fe se)
     names-are ExpandedThenHost ee =
         listed-is (needsMtaSts b && not (isListed b)) refl (seek b first (expandedName ∷ hostName ∷ [])) (atExpanded f s (readGiven (when k1 a1)) (readGiven (when k2 a2)))
-        (λ l. both-is oe l ok1 ok2 f s fe se (ee refl) k1)
+        (λ l. both-is oe xe l ok1 ok2 f s fe se (ee refl) k1)
 
 -- what is given by a test
 when-given : {A : Type 0} (t : Bool) (a : A) → isGiven (when t a) ≡ t
@@ -188,14 +188,14 @@ expanded-is A.Failed e h = never cc
 expanded-is A.NoAddress e h = never cc
 
 -- the walk of a call
-pub walk-is : (a : Arguments) → walked (factsOf a) ≡ walkAnswer (a .numbers) (needsMtaSts (baseOf a)) (needsMtaSts (baseOf a) && not (isListed (baseOf a))) (a .nextHop) (a .host) (a .expanded) (a .lengths1) (a .records1) (a .lengths2) (a .records2) (presentedIn a)
+pub walk-is : (a : Arguments) → walked (factsOf a) ≡ walkAnswer (a .numbers) (needsMtaSts (baseOf a)) (needsMtaSts (baseOf a) && not (isListed (baseOf a))) (a .nextHop) (a .expandedNextHop) (a .host) (a .expanded) (a .lengths1) (a .records1) (a .lengths2) (a .records2) (presentedIn a)
 unfolding factsOf rules walkAnswer firstStage baseOf laterGiven
 walk-is a =
     rw (← tries-meaning (addressOf (a .numbers .address)))
-    (names-are (a .numbers) (baseOf a) (a .expanded) (a .lengths1) (a .records1) (a .lengths2) (a .records2)
+    (names-are (a .numbers) (baseOf a) (a .expandedNextHop) (a .expanded) (a .lengths1) (a .records1) (a .lengths2) (a .records2)
     (leb 1 (a .numbers .«tlsa_answers»)) (leb 2 (a .numbers .«tlsa_answers»))
     (answerOf (lookupOf (a .numbers .«tlsa1_result»)) (a .lengths1) (a .records1)) (answerOf (lookupOf (a .numbers .«tlsa2_result»)) (a .lengths2) (a .records2))
-    (presentedIn a) refl
+    (presentedIn a) refl refl
     (taken-is (lookupOf (a .numbers .«tlsa1_result»)) (a .lengths1) (a .records1)) (taken-is (lookupOf (a .numbers .«tlsa2_result»)) (a .lengths2) (a .records2))
     (leb 2 (a .numbers .«tlsa_answers») || laterGiven (a .numbers .starttls) (a .numbers .handshake) (a .numbers .«certificates_given»))
     (laterGiven (a .numbers .starttls) (a .numbers .handshake) (a .numbers .«certificates_given»))

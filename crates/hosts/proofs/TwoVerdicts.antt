@@ -92,7 +92,7 @@ module _ (b : Base) where
   nobody-dane : (s : Taken) → needsDane s ≡ true → takenPasses b s nobody ≡ false
   unfolding danePasses
   nobody-dane nothing h = apart h
-  nobody-dane (set domain rs) h = any-none _ (no-match (namesReference (references (b .origin) domain (b .nextHop)) nobody)) rs
+  nobody-dane (set domain rs) h = any-none _ (no-match (namesReference (references (b .origin) domain (b .nextHop) (b .expandedNextHop)) nobody)) rs
 
   nobody-sts : mtaStsPasses b nobody ≡ false
   unfolding mtaStsPasses showsHost
@@ -127,7 +127,7 @@ module _ (b : Base) where
         let some-usable : any usable rs ≡ true = sym (authentication-is rs) ∙ h in
         let r : List ℕ = pick usable spare rs in
         let is-usable : usable r ≡ true = pick-passes usable spare rs some-usable in
-        pick-any usable _ spare rs some-usable (and-intro (usable r) _ is-usable (showing-matches r domain (b .host) (k .0 .0) (host-ok .0) is-usable (b .origin) (b .nextHop)))
+        pick-any usable _ spare rs some-usable (and-intro (usable r) _ is-usable (showing-matches r domain (b .host) (k .0 .0) (host-ok .0) is-usable (b .origin) (b .nextHop) (b .expandedNextHop)))
 
     somebody-sts : (s : Taken) → TakenOk s → isListed b ≡ true → mtaStsPasses b (somebody s) ≡ true
     unfolding somebody bytesOf nameOf mtaStsPasses

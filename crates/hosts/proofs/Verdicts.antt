@@ -127,7 +127,7 @@ module _ (b : Base) (f : Full) where
 
   -- the tests in the words of the rules, by the name at which the search ends
   abbrev at : Tried → Tests
-  at t = tests (needsMtaSts b) (isListed b) (isLookupFailure (t .answer)) (hasRecord (secureRecords (t .answer))) (any usable (secureRecords (t .answer))) (f .offered) (isEstablished (f .outcome)) (danePasses (references (b .origin) (t .name) (b .nextHop)) (secureRecords (t .answer)) (f .presented)) (mtaStsPasses b (f .presented))
+  at t = tests (needsMtaSts b) (isListed b) (isLookupFailure (t .answer)) (hasRecord (secureRecords (t .answer))) (any usable (secureRecords (t .answer))) (f .offered) (isEstablished (f .outcome)) (danePasses (references (b .origin) (t .name) (b .nextHop) (b .expandedNextHop)) (secureRecords (t .answer)) (f .presented)) (mtaStsPasses b (f .presented))
 
   abbrev Fits : Rules → List Tried → Type 0
   Fits t l = Only (verdictOf t f) (at (searchEnd l))
@@ -141,7 +141,7 @@ module _ (b : Base) (f : Full) where
     fits-taken domain ts r rs e =
         let s : Taken = set domain (r ∷ rs) in
         rw (quiet-connect b f s .2, e, authentication-is (r ∷ rs), tls-is r rs)
-        (only-end (needsMtaSts b) (isListed b) true (any usable (r ∷ rs)) (f .offered) (isEstablished (f .outcome)) (danePasses (references (b .origin) domain (b .nextHop)) (r ∷ rs) (f .presented)) (mtaStsPasses b (f .presented)) q (λ z. refl))
+        (only-end (needsMtaSts b) (isListed b) true (any usable (r ∷ rs)) (f .offered) (isEstablished (f .outcome)) (danePasses (references (b .origin) domain (b .nextHop) (b .expandedNextHop)) (r ∷ rs) (f .presented)) (mtaStsPasses b (f .presented)) q (λ z. refl))
 
     fits-failed : (k u d : Bool) → Only 22 (tests (needsMtaSts b) (isListed b) true k u (f .offered) (isEstablished (f .outcome)) d (mtaStsPasses b (f .presented)))
     fits-failed k u d = only-22 (needsMtaSts b) (isListed b) k u (f .offered) (isEstablished (f .outcome)) d (mtaStsPasses b (f .presented)) q
@@ -169,7 +169,7 @@ module _ (b : Base) (f : Full) where
     hasUsable = any usable (secureRecords (t .answer));
     offered = f .offered;
     established = sym (made-is (f .outcome)) i;
-    danePassed = danePasses (references (b .origin) (t .name) (b .nextHop)) (secureRecords (t .answer)) (f .presented);
+    danePassed = danePasses (references (b .origin) (t .name) (b .nextHop) (b .expandedNextHop)) (secureRecords (t .answer)) (f .presented);
     mtaStsPassed = sym sts-is i;
   }
 

@@ -3,7 +3,7 @@ use Prim.Native.Nat.{ℕ, _+_}
 use mathlib.Core.Path.{_≡_, refl, sym, _∙_}
 use mathlib.Core.Bool.{Bool, true, false, cond, not, _&&_, _||_}
 use mathlib.Core.List.{List}
-use mathlib.Core.Option.{none, some}
+use mathlib.Core.Option.{Option, none, some}
 use lib.Dec.{eqb, leb}
 use borrow.Author.Needs.{needs}
 use borrow.Author.Tests.{not-true, not-false, ne-eqb}
@@ -24,7 +24,7 @@ use Rattle.tlsa.specs.Address.{namesToTry, meaningOf}
 use Rattle.tlsa.specs.Answer.{answerOf, readOf, lookupVerdict, readVerdict, recordsOf}
 use Rattle.tlsa.proofs.Meaning.{meaning-one}
 use Rattle.certificates.specs.declared.Origin.{Origin}
-use Rattle.certificates.specs.Facts.{Presented}
+use Rattle.certificates.specs.Facts.{Presented, when}
 use Rattle.certificates.specs.Checks.{references, danePasses, showsHost}
 use Rattle.hosts.specs.declared.HostAnswer.{HostAnswer}
 use Rattle.hosts.specs.declared.Numbers.{Numbers}
@@ -35,7 +35,7 @@ use Rattle.hosts.specs.declared.Stage.{Stage}
 use Rattle.hosts.specs.declared.Connection.{Connection}
 use Rattle.hosts.specs.Facts.{established, failed, isGiven}
 use Rattle.hosts.specs.Rules.{isAuthentication, isTls, lastVerdict}
-use Rattle.hosts.specs.Arguments.{originOf, addressOf, lookupOf, offeredOf, outcomeOf, when}
+use Rattle.hosts.specs.Arguments.{originOf, addressOf, lookupOf, offeredOf, outcomeOf}
 use Rattle.hosts.specs.Stages.{noPolicy, givenPolicy, policyNeeds, readGiven, laterGiven, asking, saying, readStage, hostRead, atHost, expandedRead, atExpanded, triesOf, namesStage, firstStage, handshakeStage, connection, certificateVerdict, foundAnswer, walkAnswer}
 
 -- `ask`
@@ -339,31 +339,31 @@ needed-is s t r h e = cc
 pub ruleset needed-laws = (needed-not, needed-is, not-true, not-false, needs)
 
 -- `at_certificates`: t, x, y are what its calls gave
-pub verdict-is : (d : Needs) (e : Bool) (o : Origin) (domain hop host L R : List ℕ) (p : Presented) (t : Bool) → t ≡ isAuthentication d → (x : Bool) → x ≡ (not t || danePasses (references o domain hop) (recordsOf L R) p) → (y : Bool) → y ≡ (not e || showsHost host p) → (v : ℕ) → v ≡ lastVerdict t e x y → v ≡ certificateVerdict d e o domain hop host L R p
+pub verdict-is : (d : Needs) (e : Bool) (o : Origin) (domain hop : List ℕ) (further : Option (List ℕ)) (host L R : List ℕ) (p : Presented) (t : Bool) → t ≡ isAuthentication d → (x : Bool) → x ≡ (not t || danePasses (references o domain hop further) (recordsOf L R) p) → (y : Bool) → y ≡ (not e || showsHost host p) → (v : ℕ) → v ≡ lastVerdict t e x y → v ≡ certificateVerdict d e o domain hop further host L R p
 unfolding certificateVerdict
-verdict-is d e o domain hop host L R p t te x xe y ye v ve = rw (← te, ← xe, ← ye) ve
+verdict-is d e o domain hop further host L R p t te x xe y ye v ve = rw (← te, ← xe, ← ye) ve
 
 pub ruleset verdict-laws = (verdict-is, needs)
 
 -- `at_connection`: s, o, v are what its calls gave
-module _ (n : Numbers) (e : Bool) (f : Found) (domain hop host L R : List ℕ) (p : Presented) (s : Connection) (se : s ≡ connection (f .questions) (f .needs) e (offeredOf (n .starttls)) (outcomeOf (n .handshake)) (eqb (n .«certificates_given») 1)) (x : HostAnswer) where
-  pub found-answered : s ≡ Connection.Answered x → x ≡ foundAnswer n e f domain hop host L R p
+module _ (n : Numbers) (e : Bool) (f : Found) (domain hop further host L R : List ℕ) (p : Presented) (s : Connection) (se : s ≡ connection (f .questions) (f .needs) e (offeredOf (n .starttls)) (outcomeOf (n .handshake)) (eqb (n .«certificates_given») 1)) (x : HostAnswer) where
+  pub found-answered : s ≡ Connection.Answered x → x ≡ foundAnswer n e f domain hop further host L R p
   unfolding foundAnswer
   found-answered h = rw (← se, h)
 
-  pub found-certificates : s ≡ Connection.Certificates → (o : Origin) → o ≡ originOf (n .origin) → (v : ℕ) → v ≡ certificateVerdict (f .needs) e o domain hop host L R p → x ≡ saying v (f .questions) → x ≡ foundAnswer n e f domain hop host L R p
+  pub found-certificates : s ≡ Connection.Certificates → (o : Origin) → o ≡ originOf (n .origin) → (v : ℕ) → v ≡ certificateVerdict (f .needs) e o domain hop (when (eqb (n .«expanded_next_hop_given») 1) further) host L R p → x ≡ saying v (f .questions) → x ≡ foundAnswer n e f domain hop further host L R p
   unfolding foundAnswer
   found-certificates h o oe v ve xe = rw (← se, h, ← oe, ← ve) xe
 
 pub ruleset found-laws = (found-answered, found-certificates, needs)
 
 -- `walk_facts`: y, z, s, D, L, R are what its calls gave
-module _ (n : Numbers) (e u : Bool) (hop host expanded L1 R1 L2 R2 : List ℕ) (p : Presented) (y : MaybeRead) (ye : y ≡ readGiven (when (leb 1 (n .«tlsa_answers»)) (answerOf (lookupOf (n .«tlsa1_result»)) L1 R1))) (z : MaybeRead) (ze : z ≡ readGiven (when (leb 2 (n .«tlsa_answers»)) (answerOf (lookupOf (n .«tlsa2_result»)) L2 R2))) (s : Stage) (se : s ≡ firstStage n u y z) (x : HostAnswer) where
-  pub walk-answered : s ≡ Stage.Answered x → x ≡ walkAnswer n e u hop host expanded L1 R1 L2 R2 p
+module _ (n : Numbers) (e u : Bool) (hop further host expanded L1 R1 L2 R2 : List ℕ) (p : Presented) (y : MaybeRead) (ye : y ≡ readGiven (when (leb 1 (n .«tlsa_answers»)) (answerOf (lookupOf (n .«tlsa1_result»)) L1 R1))) (z : MaybeRead) (ze : z ≡ readGiven (when (leb 2 (n .«tlsa_answers»)) (answerOf (lookupOf (n .«tlsa2_result»)) L2 R2))) (s : Stage) (se : s ≡ firstStage n u y z) (x : HostAnswer) where
+  pub walk-answered : s ≡ Stage.Answered x → x ≡ walkAnswer n e u hop further host expanded L1 R1 L2 R2 p
   unfolding walkAnswer
   walk-answered h = rw (← ye, ← ze, ← se, h)
 
-  pub walk-connected : (f : Found) → s ≡ Stage.Connect f → (D : List ℕ) → D ≡ cond (f .expanded) expanded host → (L : List ℕ) → L ≡ cond (f .second) L2 L1 → (R : List ℕ) → R ≡ cond (f .second) R2 R1 → x ≡ foundAnswer n e f D hop host L R p → x ≡ walkAnswer n e u hop host expanded L1 R1 L2 R2 p
+  pub walk-connected : (f : Found) → s ≡ Stage.Connect f → (D : List ℕ) → D ≡ cond (f .expanded) expanded host → (L : List ℕ) → L ≡ cond (f .second) L2 L1 → (R : List ℕ) → R ≡ cond (f .second) R2 R1 → x ≡ foundAnswer n e f D hop further host L R p → x ≡ walkAnswer n e u hop further host expanded L1 R1 L2 R2 p
   unfolding walkAnswer
   walk-connected f h D De L Le R Re xe = rw (← ye, ← ze, ← se, h, ← De, ← Le, ← Re) xe
 

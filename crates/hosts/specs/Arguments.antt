@@ -10,7 +10,7 @@ use Rattle.tlsa.specs.declared.Address.the-variants.{NoAliasSecure, NoAliasInse
 use Rattle.tlsa.specs.declared.Lookup.{Lookup}
 use Rattle.tlsa.specs.declared.Lookup.the-variants as L
 use Rattle.tlsa.specs.Answer.{answerOf}
-use Rattle.certificates.specs.Facts.{Presented, presentedOf}
+use Rattle.certificates.specs.Facts.{Presented, when, presentedOf}
 use Rattle.certificates.specs.declared.Origin.{Origin}
 use Rattle.certificates.specs.declared.Origin.the-variants.{SecureMx, InsecureMx, NoMx}
 use Rattle.hosts.specs.declared.Numbers.{Numbers}
@@ -20,6 +20,7 @@ use Rattle.hosts.specs.Facts.{HeldPolicy, Base, Handshake, established, 
 pub record Arguments : Type 0 where
   pub numbers : Numbers
   pub nextHop : List ℕ
+  pub expandedNextHop : List ℕ
   pub host : List ℕ
   pub expanded : List ℕ
   pub body : List ℕ
@@ -80,15 +81,12 @@ offeredOf n = cond (eqb n 0) none (some (eqb n 1))
 abbrev pub outcomeOf : ℕ → Option Handshake
 outcomeOf n = cond (eqb n 0) none (some (cond (eqb n 1) established failed))
 
--- a where the test holds, else nothing is given
-abbrev pub when : {A : Type 0} → Bool → A → Option A
-when t a = cond t (some a) none
-
--- the facts that are given in every call
+-- the facts that are given in every call. expanded_next_hop_given: 1 a name, 2 none
 unfoldable pub baseOf : Arguments → Base
 baseOf a = record {
   clock = a .numbers .clock;
   nextHop = a .nextHop;
+  expandedNextHop = when (eqb (a .numbers .«expanded_next_hop_given») 1) (a .expandedNextHop);
   origin = originOf (a .numbers .origin);
   host = a .host;
   address = addressOf (a .numbers .address);
@@ -112,10 +110,11 @@ factsOf a = record {
 }
 
 -- the arguments of a call
-abbrev pub argumentsOf : Numbers → (nextHop host expanded body lengths1 records1 lengths2 records2 certificates certificateLengths keyPlaces digests paths dnsIds dnsIdLengths commonName : List ℕ) → Arguments
-argumentsOf n nextHop host expanded body lengths1 records1 lengths2 records2 certificates certificateLengths keyPlaces digests paths dnsIds dnsIdLengths commonName = record {
+abbrev pub argumentsOf : Numbers → (nextHop expandedNextHop host expanded body lengths1 records1 lengths2 records2 certificates certificateLengths keyPlaces digests paths dnsIds dnsIdLengths commonName : List ℕ) → Arguments
+argumentsOf n nextHop expandedNextHop host expanded body lengths1 records1 lengths2 records2 certificates certificateLengths keyPlaces digests paths dnsIds dnsIdLengths commonName = record {
   numbers = n;
   nextHop = nextHop;
+  expandedNextHop = expandedNextHop;
   host = host;
   expanded = expanded;
   body = body;

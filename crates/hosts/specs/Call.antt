@@ -27,7 +27,8 @@ ifSupplied supplied test = not supplied || test
 -- 67: every input code and yes/no number that is supplied is one of its named choices, and there are at most two TLSA answers
 unfoldable pub codesFit : Arguments → Bool
 codesFit a =
-    within 1 3 (a .numbers .origin)
+    within 1 2 (a .numbers .«expanded_next_hop_given»)
+    && within 1 3 (a .numbers .origin)
     && within 1 7 (a .numbers .address)
     && within 1 2 (a .numbers .«policy_given»)
     && leb (a .numbers .«tlsa_answers») 2
@@ -42,6 +43,10 @@ codesFit a =
 -- 62: the present clock, and with a policy the clock of its fetch, are readings
 unfoldable pub clocksFit : Arguments → Bool
 clocksFit a = isReading (a .numbers .clock) && ifSupplied (eqb (a .numbers .«policy_given») 1) (isReading (a .numbers .fetched))
+
+-- 60: the next-hop's name, then the expanded next-hop's where one is given, whatever the origin
+unfoldable pub nextHopsFit : Arguments → Bool
+nextHopsFit a = isName (a .nextHop) && ifSupplied (eqb (a .numbers .«expanded_next_hop_given») 1) (isName (a .expandedNextHop))
 
 -- with no MX the host equals the next-hop
 abbrev pub hostFits : Origin → List ℕ → List ℕ → Bool
@@ -77,7 +82,7 @@ unfoldable pub checks : Arguments → List Check
 checks a =
     record { passes = codesFit a; refusal = 67 }
     ∷ record { passes = clocksFit a; refusal = 62 }
-    ∷ record { passes = isName (a .nextHop); refusal = 60 }
+    ∷ record { passes = nextHopsFit a; refusal = 60 }
     ∷ record { passes = hostNamesFit a; refusal = 61 }
     ∷ record { passes = policyFits a; refusal = policyAnswer (a .body) .number }
     ∷ record { passes = answersFit a; refusal = 64 }

@@ -14,11 +14,12 @@ pub record HeldPolicy : Type 0 where
   pub policy : Policy
   pub fetched : ℕ
 
--- 1. What is given in every call: present clock, next-hop, origin of the host list, host name, address result (with the expanded name of an alias, else none),
--- and a policy with its fetch reading, or none
+-- 1. What is given in every call: present clock, next-hop, expanded next-hop or none (document 02, No. 3), origin of the host list, host name, address result
+-- (with the expanded name of an alias, else none), and a policy with its fetch reading, or none
 pub record Base : Type 0 where
   pub clock : ℕ
   pub nextHop : List ℕ
+  pub expandedNextHop : Option (List ℕ)
   pub origin : Origin
   pub host : List ℕ
   pub address : Address

@@ -79,7 +79,7 @@ needsAnything b s = isTls (needs s) || needsMtaSts b
 -- DANE passes for the set taken; where none is, nothing passes
 abbrev pub takenPasses : Base → Taken → Presented → Bool
 takenPasses b nothing p = false
-takenPasses b (set domain records) p = danePasses (references (b .origin) domain (b .nextHop)) records p
+takenPasses b (set domain records) p = danePasses (references (b .origin) domain (b .nextHop) (b .expandedNextHop)) records p
 
 -- established: 26, then 27, then 5, 3, 4 or 2 by what was needed (DANE, MTA-STS) and passes; where both are needed, both must pass
 abbrev pub lastVerdict : (dane sts danePassed stsPassed : Bool) → ℕ

@@ -7,7 +7,6 @@ use mathlib.Core.Option.{Option, none, some}
 use lib.Dec.{eqb, leb}
 use Rattle.lists.specs.Bytes.{within, all}
 use Rattle.numbers.specs.Numbers.{numbers}
-use Rattle.names.specs.Name.{isName}
 use Rattle.clock.specs.Clock.{isLive}
 use Rattle.policies.specs.declared.PolicyAnswer.{PolicyAnswer}
 use Rattle.policies.specs.declared.PolicyFor.{PolicyFor}
@@ -22,7 +21,7 @@ use Rattle.tlsa.specs.declared.Tries.{Tries}
 use Rattle.tlsa.specs.declared.Tries.the-variants.{ExpandedThenHost, HostOnly, NoName, AddressFailed, AddressMissing}
 use Rattle.tlsa.specs.Answer.{Answer, recordsOf, answerOf, readOf}
 use Rattle.certificates.specs.declared.Origin.{Origin}
-use Rattle.certificates.specs.Facts.{Presented}
+use Rattle.certificates.specs.Facts.{Presented, when}
 use Rattle.certificates.specs.Checks.{references, danePasses, showsHost}
 use Rattle.certificates.specs.Limits.{yesNo}
 use Rattle.hosts.specs.declared.HostAnswer.{HostAnswer}
@@ -38,14 +37,14 @@ use Rattle.hosts.specs.declared.Connection.{Connection}
 use Rattle.hosts.specs.declared.Connection.the-variants as C
 use Rattle.hosts.specs.Facts.{Handshake, established, failed, isGiven}
 use Rattle.hosts.specs.Rules.{isAuthentication, isTls, lastVerdict}
-use Rattle.hosts.specs.Arguments.{Arguments, argumentsOf, originOf, addressOf, lookupOf, offeredOf, outcomeOf, when}
-use Rattle.hosts.specs.Call.{ifSupplied, codesFit, clocksFit, hostNamesFit, answersFit, certificatesFit, refused}
+use Rattle.hosts.specs.Arguments.{Arguments, argumentsOf, originOf, addressOf, lookupOf, offeredOf, outcomeOf}
+use Rattle.hosts.specs.Call.{ifSupplied, codesFit, clocksFit, nextHopsFit, hostNamesFit, answersFit, certificatesFit, refused}
 
 -- the argument checks
 
 -- the codes of the facts that are given in every call, and the number of TLSA answers
 unfoldable pub baseCodesFit : Numbers → Bool
-baseCodesFit n = within 1 3 (n .origin) && within 1 7 (n .address) && within 1 2 (n .«policy_given») && leb (n .«tlsa_answers») 2
+baseCodesFit n = within 1 2 (n .«expanded_next_hop_given») && within 1 3 (n .origin) && within 1 7 (n .address) && within 1 2 (n .«policy_given») && leb (n .«tlsa_answers») 2
 
 -- the codes of the later facts
 unfoldable pub laterCodesFit : Numbers → Bool
@@ -63,16 +62,16 @@ certificateCodesFit n paths =
     (all yesNo (numbers paths) && yesNo (n .«trusted_root») && yesNo (n .«common_name_given»))
 
 -- arguments of which only these parts are looked at
-abbrev pub firstPart : Numbers → (nextHop host expanded paths : List ℕ) → Arguments
-firstPart n nextHop host expanded paths = argumentsOf n nextHop host expanded [] [] [] [] [] [] [] [] [] paths [] [] []
+abbrev pub firstPart : Numbers → (nextHop expandedNextHop host expanded paths : List ℕ) → Arguments
+firstPart n nextHop expandedNextHop host expanded paths = argumentsOf n nextHop expandedNextHop host expanded [] [] [] [] [] [] [] [] [] paths [] [] []
 
 abbrev pub lastPart : Numbers → (lengths1 records1 lengths2 records2 certificates certificateLengths keyPlaces digests paths dnsIds dnsIdLengths commonName : List ℕ) → Arguments
 lastPart n lengths1 records1 lengths2 records2 certificates certificateLengths keyPlaces digests paths dnsIds dnsIdLengths commonName =
-    argumentsOf n [] [] [] [] lengths1 records1 lengths2 records2 certificates certificateLengths keyPlaces digests paths dnsIds dnsIdLengths commonName
+    argumentsOf n [] [] [] [] [] lengths1 records1 lengths2 records2 certificates certificateLengths keyPlaces digests paths dnsIds dnsIdLengths commonName
 
 -- the first refusal among 67, 62, 60, 61, or none
 unfoldable pub firstRefusal : Arguments → Refusal
-firstRefusal a = cond (codesFit a) (cond (clocksFit a) (cond (isName (a .nextHop)) (cond (hostNamesFit a) F.None (F.Number 61)) (F.Number 60)) (F.Number 62)) (F.Number 67)
+firstRefusal a = cond (codesFit a) (cond (clocksFit a) (cond (nextHopsFit a) (cond (hostNamesFit a) F.None (F.Number 61)) (F.Number 60)) (F.Number 62)) (F.Number 67)
 
 -- the first refusal among 64, 65, or none
 unfoldable pub lastRefusal : Arguments → Refusal
@@ -170,10 +169,10 @@ connection n d e (some false) m c = C.Answered (saying (cond (isTls d || e) 24 1
 connection n d e (some true) m c = handshakeStage n d e m c
 
 -- the verdict at certificate facts; what is not needed is not looked at
-unfoldable pub certificateVerdict : Needs → (e : Bool) → Origin → (domain nextHop host lengths records : List ℕ) → Presented → ℕ
-certificateVerdict d e origin domain nextHop host lengths records p =
+unfoldable pub certificateVerdict : Needs → (e : Bool) → Origin → (domain nextHop : List ℕ) (expandedNextHop : Option (List ℕ)) (host lengths records : List ℕ) → Presented → ℕ
+certificateVerdict d e origin domain nextHop expandedNextHop host lengths records p =
     lastVerdict (isAuthentication d) e
-    (not (isAuthentication d) || danePasses (references origin domain nextHop) (recordsOf lengths records) p)
+    (not (isAuthentication d) || danePasses (references origin domain nextHop expandedNextHop) (recordsOf lengths records) p)
     (not e || showsHost host p)
 
 -- an answer, or the verdict at certificate facts
@@ -182,9 +181,9 @@ ended n v (C.Answered x) = x
 ended n v C.Certificates = saying v n
 
 -- the answer from the connection on
-unfoldable pub foundAnswer : Numbers → (e : Bool) → Found → (domain nextHop host lengths records : List ℕ) → Presented → HostAnswer
-foundAnswer n e f domain nextHop host lengths records p =
-    ended (f .questions) (certificateVerdict (f .needs) e (originOf (n .origin)) domain nextHop host lengths records p)
+unfoldable pub foundAnswer : Numbers → (e : Bool) → Found → (domain nextHop expandedNextHop host lengths records : List ℕ) → Presented → HostAnswer
+foundAnswer n e f domain nextHop expandedNextHop host lengths records p =
+    ended (f .questions) (certificateVerdict (f .needs) e (originOf (n .origin)) domain nextHop (when (eqb (n .«expanded_next_hop_given») 1) expandedNextHop) host lengths records p)
     (connection (f .questions) (f .needs) e (offeredOf (n .starttls)) (outcomeOf (n .handshake)) (eqb (n .«certificates_given») 1))
 
 -- the walk
@@ -202,9 +201,9 @@ reaching k (S.Answered x) = x
 reaching k (S.Connect f) = k f
 
 -- the answer of the walk. e and u: whether the MTA-STS check is needed, and whether no pattern then matches the host
-unfoldable pub walkAnswer : Numbers → (e u : Bool) → (nextHop host expanded lengths1 records1 lengths2 records2 : List ℕ) → Presented → HostAnswer
-walkAnswer n e u nextHop host expanded lengths1 records1 lengths2 records2 p =
-    reaching (λ f. foundAnswer n e f (cond (f .expanded) expanded host) nextHop host (cond (f .second) lengths2 lengths1) (cond (f .second) records2 records1) p)
+unfoldable pub walkAnswer : Numbers → (e u : Bool) → (nextHop expandedNextHop host expanded lengths1 records1 lengths2 records2 : List ℕ) → Presented → HostAnswer
+walkAnswer n e u nextHop expandedNextHop host expanded lengths1 records1 lengths2 records2 p =
+    reaching (λ f. foundAnswer n e f (cond (f .expanded) expanded host) nextHop expandedNextHop host (cond (f .second) lengths2 lengths1) (cond (f .second) records2 records1) p)
     (firstStage n u
     (readGiven (when (leb 1 (n .«tlsa_answers»)) (answerOf (lookupOf (n .«tlsa1_result»)) lengths1 records1)))
     (readGiven (when (leb 2 (n .«tlsa_answers»)) (answerOf (lookupOf (n .«tlsa2_result»)) lengths2 records2))))

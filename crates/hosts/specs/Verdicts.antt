@@ -134,7 +134,7 @@ pub record Tests : Type 0 where
   pub danePassed : Bool
   pub mtaStsPassed : Bool
 
--- the tests of a full set, by its address result and the name at which the search ends. References for DANE: the TLSA base domain, which is that name, and the next-hop by the origin.
+-- the tests of a full set, by its address result and the name at which the search ends. References for DANE: the TLSA base domain, which is that name, and the next-hop and the expanded next-hop by the origin.
 -- MTA-STS passes when a policy pattern matches the host, the trusted-root flag holds and a DNS-ID matches the host
 abbrev pub testsAt : Base → Full → Address → Tried → Tests
 testsAt b f x t = record {
@@ -147,7 +147,7 @@ testsAt b f x t = record {
   hasUsable = any usable (secureRecords (t .answer));
   offered = f .offered;
   established = isHandshakeMade (f .outcome);
-  danePassed = danePasses (references (b .origin) (t .name) (b .nextHop)) (secureRecords (t .answer)) (f .presented);
+  danePassed = danePasses (references (b .origin) (t .name) (b .nextHop) (b .expandedNextHop)) (secureRecords (t .answer)) (f .presented);
   mtaStsPassed = listsHost (b .host) (b .policy) && certifiesHost (b .host) (f .presented);
 }
 

@@ -4,6 +4,7 @@ ghost use mathlib.Core.Bool.{_&&_};
 ghost use mathlib.Core.List.{[]};
 ghost use lib.Dec.{eqb};
 ghost use Rattle.lists.specs.Bytes.{within};
+ghost use Rattle.names.specs.Name.{isName};
 ghost use Rattle.clock.specs.Clock.{isReading};
 ghost use Rattle.tlsa.specs.Answer.{answerFits};
 ghost use Rattle.certificates.specs.Limits.{factsFit};
@@ -39,6 +40,10 @@ fn result_fits(supplied: bool, result: u64) -> bool
 fn base_codes_fit(n: Numbers) -> bool
     ensures { λ r. ⌜ r ≡ baseCodesFit n ⌝ }
 {
+    let expanded = is_within(1, 2, n.expanded_next_hop_given);
+    if !expanded {
+        return false;
+    }
     let origin = is_within(1, 3, n.origin);
     if !origin {
         return false;
@@ -122,6 +127,20 @@ fn clocks_fit(present: u64, policy_given: u64, fetched: u64) -> bool
     clock::is_reading(Reading(fetched))
 }
 
+// 60: whether the next-hop's name, and the expanded next-hop's if one is given, are good.
+fn next_hops_fit(next_hop: &[u8], expanded_given: bool, expanded_next_hop: &[u8]) -> bool
+    ensures { λ r. ⌜ r ≡ (isName (now («next_hop» .entry)) && ifSupplied «expanded_given» (isName (now («expanded_next_hop» .entry)))) ⌝ }
+{
+    let named = names::is_name(next_hop);
+    if !named {
+        return false;
+    }
+    if !expanded_given {
+        return true;
+    }
+    names::is_name(expanded_next_hop)
+}
+
 // Whether the host equals the next-hop, if there is no MX.
 fn host_fits(origin: Origin, host: &[u8], next_hop: &[u8]) -> bool
     ensures { λ r. ⌜ r ≡ hostFits origin (now (host .entry)) (now («next_hop» .entry)) ⌝ }
@@ -135,7 +154,7 @@ fn host_fits(origin: Origin, host: &[u8], next_hop: &[u8]) -> bool
 
 // 61: whether the host's name, and the expanded name of an alias, are good.
 fn host_names_fit(n: Numbers, next_hop: &[u8], host: &[u8], expanded: &[u8]) -> bool
-    ensures { λ r. ⌜ r ≡ hostNamesFit (firstPart n (now («next_hop» .entry)) (now (host .entry)) (now (expanded .entry)) []) ⌝ }
+    ensures { λ r. ⌜ r ≡ hostNamesFit (firstPart n (now («next_hop» .entry)) [] (now (host .entry)) (now (expanded .entry)) []) ⌝ }
 {
     let named = names::is_name(host);
     if !named {
@@ -158,11 +177,12 @@ fn host_names_fit(n: Numbers, next_hop: &[u8], host: &[u8], expanded: &[u8]) -> 
 pub fn first_refusal(
     n: Numbers,
     next_hop: &[u8],
+    expanded_next_hop: &[u8],
     host: &[u8],
     expanded: &[u8],
     paths: &[u8],
 ) -> Refusal
-    ensures { λ r. ⌜ r ≡ firstRefusal (firstPart n (now («next_hop» .entry)) (now (host .entry)) (now (expanded .entry)) (now (paths .entry))) ⌝ }
+    ensures { λ r. ⌜ r ≡ firstRefusal (firstPart n (now («next_hop» .entry)) (now («expanded_next_hop» .entry)) (now (host .entry)) (now (expanded .entry)) (now (paths .entry))) ⌝ }
 {
     let codes = codes_fit(n, paths);
     if !codes {
@@ -172,7 +192,7 @@ pub fn first_refusal(
     if !clocks {
         return Refusal::Number(62);
     }
-    let named = names::is_name(next_hop);
+    let named = next_hops_fit(next_hop, n.expanded_next_hop_given == 1, expanded_next_hop);
     if !named {
         return Refusal::Number(60);
     }

@@ -19,6 +19,7 @@ pub struct HostAnswer {
 // The numbers of the call, in the boundary's order.
 pub struct Numbers {
     pub clock: u64,
+    pub expanded_next_hop_given: u64,
     pub origin: u64,
     pub address: u64,
     pub policy_given: u64,
@@ -70,6 +71,7 @@ pub enum Connection {
 pub fn judge_host<'a>(
     n: Numbers,
     next_hop: &'a [u8],
+    expanded_next_hop: &'a [u8],
     host: &'a [u8],
     expanded: &'a [u8],
     policy: &'a [u8],
@@ -86,9 +88,9 @@ pub fn judge_host<'a>(
     dns_id_lengths: &'a [u8],
     common_name: &'a [u8],
 ) -> HostAnswer
-    ensures { λ r. ⌜ r ≡ hostAnswer (argumentsOf n (now («next_hop» .entry)) (now (host .entry)) (now (expanded .entry)) (now (policy .entry)) (now («tlsa1_lengths» .entry)) (now («tlsa1_records» .entry)) (now («tlsa2_lengths» .entry)) (now («tlsa2_records» .entry)) (now (certificates .entry)) (now («certificate_lengths» .entry)) (now («key_places» .entry)) (now (digests .entry)) (now (paths .entry)) (now («dns_ids» .entry)) (now («dns_id_lengths» .entry)) (now («common_name» .entry))) ⌝ }
+    ensures { λ r. ⌜ r ≡ hostAnswer (argumentsOf n (now («next_hop» .entry)) (now («expanded_next_hop» .entry)) (now (host .entry)) (now (expanded .entry)) (now (policy .entry)) (now («tlsa1_lengths» .entry)) (now («tlsa1_records» .entry)) (now («tlsa2_lengths» .entry)) (now («tlsa2_records» .entry)) (now (certificates .entry)) (now («certificate_lengths» .entry)) (now («key_places» .entry)) (now (digests .entry)) (now (paths .entry)) (now («dns_ids» .entry)) (now («dns_id_lengths» .entry)) (now («common_name» .entry))) ⌝ }
 {
-    let first = checks::first_refusal(n, next_hop, host, expanded, paths);
+    let first = checks::first_refusal(n, next_hop, expanded_next_hop, host, expanded, paths);
     if let Refusal::Number(number) = first {
         return walk::say(number, 0);
     }
@@ -122,6 +124,7 @@ pub fn judge_host<'a>(
         sts,
         unlisted,
         next_hop,
+        expanded_next_hop,
         host,
         expanded,
         tlsa1_lengths,

@@ -4,10 +4,10 @@ ghost use mathlib.Core.Bool.{cond, not, _&&_, _||_};
 ghost use Prim.Native.Nat.{_≤_};
 ghost use lib.Dec.{eqb};
 ghost use Rattle.tlsa.specs.Answer.{recordsOf, answerOf};
-ghost use Rattle.certificates.specs.Facts.{presentedOf};
+ghost use Rattle.certificates.specs.Facts.{when, presentedOf};
 ghost use Rattle.certificates.specs.Checks.{references, danePasses, showsHost};
 ghost use Rattle.hosts.specs.Rules.{isAuthentication, isTls, lastVerdict};
-ghost use Rattle.hosts.specs.Arguments.{lookupOf, offeredOf, outcomeOf, when};
+ghost use Rattle.hosts.specs.Arguments.{lookupOf, offeredOf, outcomeOf};
 ghost use Rattle.hosts.specs.Stages.{givenPolicy, policyNeeds, readGiven, laterGiven, asking, saying, hostRead, atHost, expandedRead, atExpanded, namesStage, firstStage, handshakeStage, connection, certificateVerdict, foundAnswer, walkAnswer};
 use super::Connection;
 use super::Found;
@@ -340,6 +340,8 @@ fn dane_passes(
     origin: Origin,
     domain: &[u8],
     next_hop: &[u8],
+    expanded_given: bool,
+    expanded_next_hop: &[u8],
     certificates: &[u8],
     certificate_lengths: &[u8],
     key_places: &[u8],
@@ -351,7 +353,7 @@ fn dane_passes(
     common_name_given: bool,
     common_name: &[u8],
 ) -> bool
-    ensures { λ r. ⌜ r ≡ (not needed || danePasses (references origin (now (domain .entry)) (now («next_hop» .entry))) (recordsOf (now (lengths .entry)) (now (records .entry))) (presentedOf (now (certificates .entry)) (now («certificate_lengths» .entry)) (now («key_places» .entry)) (now (digests .entry)) (now (paths .entry)) «trusted_root» (now («dns_ids» .entry)) (now («dns_id_lengths» .entry)) «common_name_given» (now («common_name» .entry)))) ⌝ }
+    ensures { λ r. ⌜ r ≡ (not needed || danePasses (references origin (now (domain .entry)) (now («next_hop» .entry)) (when «expanded_given» (now («expanded_next_hop» .entry)))) (recordsOf (now (lengths .entry)) (now (records .entry))) (presentedOf (now (certificates .entry)) (now («certificate_lengths» .entry)) (now («key_places» .entry)) (now (digests .entry)) (now (paths .entry)) «trusted_root» (now («dns_ids» .entry)) (now («dns_id_lengths» .entry)) «common_name_given» (now («common_name» .entry)))) ⌝ }
 {
     if !needed {
         return true;
@@ -362,6 +364,8 @@ fn dane_passes(
         origin,
         domain,
         next_hop,
+        expanded_given,
+        expanded_next_hop,
         certificates,
         certificate_lengths,
         key_places,
@@ -417,6 +421,8 @@ fn at_certificates(
     origin: Origin,
     domain: &[u8],
     next_hop: &[u8],
+    expanded_given: bool,
+    expanded_next_hop: &[u8],
     host: &[u8],
     lengths: &[u8],
     records: &[u8],
@@ -431,7 +437,7 @@ fn at_certificates(
     common_name_given: bool,
     common_name: &[u8],
 ) -> u64
-    ensures { λ r. ⌜ r ≡ certificateVerdict needs sts origin (now (domain .entry)) (now («next_hop» .entry)) (now (host .entry)) (now (lengths .entry)) (now (records .entry)) (presentedOf (now (certificates .entry)) (now («certificate_lengths» .entry)) (now («key_places» .entry)) (now (digests .entry)) (now (paths .entry)) «trusted_root» (now («dns_ids» .entry)) (now («dns_id_lengths» .entry)) «common_name_given» (now («common_name» .entry))) ⌝ }
+    ensures { λ r. ⌜ r ≡ certificateVerdict needs sts origin (now (domain .entry)) (now («next_hop» .entry)) (when «expanded_given» (now («expanded_next_hop» .entry))) (now (host .entry)) (now (lengths .entry)) (now (records .entry)) (presentedOf (now (certificates .entry)) (now («certificate_lengths» .entry)) (now («key_places» .entry)) (now (digests .entry)) (now (paths .entry)) «trusted_root» (now («dns_ids» .entry)) (now («dns_id_lengths» .entry)) «common_name_given» (now («common_name» .entry))) ⌝ }
 {
     let dane = is_authentication(needs);
     let dane_passed = dane_passes(
@@ -441,6 +447,8 @@ fn at_certificates(
         origin,
         domain,
         next_hop,
+        expanded_given,
+        expanded_next_hop,
         certificates,
         certificate_lengths,
         key_places,
@@ -476,6 +484,7 @@ fn at_connection(
     found: Found,
     domain: &[u8],
     next_hop: &[u8],
+    expanded_next_hop: &[u8],
     host: &[u8],
     lengths: &[u8],
     records: &[u8],
@@ -488,7 +497,7 @@ fn at_connection(
     dns_id_lengths: &[u8],
     common_name: &[u8],
 ) -> HostAnswer
-    ensures { λ r. ⌜ r ≡ foundAnswer n sts found (now (domain .entry)) (now («next_hop» .entry)) (now (host .entry)) (now (lengths .entry)) (now (records .entry)) (presentedOf (now (certificates .entry)) (now («certificate_lengths» .entry)) (now («key_places» .entry)) (now (digests .entry)) (now (paths .entry)) (eqb (n .«trusted_root») 1) (now («dns_ids» .entry)) (now («dns_id_lengths» .entry)) (eqb (n .«common_name_given») 1) (now («common_name» .entry))) ⌝ }
+    ensures { λ r. ⌜ r ≡ foundAnswer n sts found (now (domain .entry)) (now («next_hop» .entry)) (now («expanded_next_hop» .entry)) (now (host .entry)) (now (lengths .entry)) (now (records .entry)) (presentedOf (now (certificates .entry)) (now («certificate_lengths» .entry)) (now («key_places» .entry)) (now (digests .entry)) (now (paths .entry)) (eqb (n .«trusted_root») 1) (now («dns_ids» .entry)) (now («dns_id_lengths» .entry)) (eqb (n .«common_name_given») 1) (now («common_name» .entry))) ⌝ }
 {
     let needs = found.needs;
     let questions = found.questions;
@@ -510,6 +519,8 @@ fn at_connection(
                 origin,
                 domain,
                 next_hop,
+                n.expanded_next_hop_given == 1,
+                expanded_next_hop,
                 host,
                 lengths,
                 records,
@@ -535,6 +546,7 @@ pub fn walk_facts<'a>(
     sts: bool,
     unlisted: bool,
     next_hop: &'a [u8],
+    expanded_next_hop: &'a [u8],
     host: &'a [u8],
     expanded: &'a [u8],
     tlsa1_lengths: &'a [u8],
@@ -550,7 +562,7 @@ pub fn walk_facts<'a>(
     dns_id_lengths: &'a [u8],
     common_name: &'a [u8],
 ) -> HostAnswer
-    ensures { λ r. ⌜ r ≡ walkAnswer n sts unlisted (now («next_hop» .entry)) (now (host .entry)) (now (expanded .entry)) (now («tlsa1_lengths» .entry)) (now («tlsa1_records» .entry)) (now («tlsa2_lengths» .entry)) (now («tlsa2_records» .entry)) (presentedOf (now (certificates .entry)) (now («certificate_lengths» .entry)) (now («key_places» .entry)) (now (digests .entry)) (now (paths .entry)) (eqb (n .«trusted_root») 1) (now («dns_ids» .entry)) (now («dns_id_lengths» .entry)) (eqb (n .«common_name_given») 1) (now («common_name» .entry))) ⌝ }
+    ensures { λ r. ⌜ r ≡ walkAnswer n sts unlisted (now («next_hop» .entry)) (now («expanded_next_hop» .entry)) (now (host .entry)) (now (expanded .entry)) (now («tlsa1_lengths» .entry)) (now («tlsa1_records» .entry)) (now («tlsa2_lengths» .entry)) (now («tlsa2_records» .entry)) (presentedOf (now (certificates .entry)) (now («certificate_lengths» .entry)) (now («key_places» .entry)) (now (digests .entry)) (now (paths .entry)) (eqb (n .«trusted_root») 1) (now («dns_ids» .entry)) (now («dns_id_lengths» .entry)) (eqb (n .«common_name_given») 1) (now («common_name» .entry))) ⌝ }
 {
     let first = read_given(
         1 <= n.tlsa_answers,
@@ -577,6 +589,7 @@ pub fn walk_facts<'a>(
                 found,
                 domain,
                 next_hop,
+                expanded_next_hop,
                 host,
                 lengths,
                 records,

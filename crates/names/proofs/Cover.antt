@@ -93,6 +93,26 @@ name-lowered s = rw (length-map s lowerOf, split-lowered s, labels-lowered (spli
 pub name-same : (a b : List ℕ) → sameText a b ≡ true → isName a ≡ isName b
 name-same a b h = sym (name-lowered a) ∙ ap isName (same-lowered a b h) ∙ name-lowered b
 
+-- what follows the first dots of equal texts is equal
+pub rest-same : (a b : List ℕ) → sameText a b ≡ true → sameText (afterFirst a) (afterFirst b) ≡ true
+unfolding agree sameLetter indexOf
+rest-same [] [] h = refl
+rest-same [] (y ∷ b) h = never cc
+rest-same (x ∷ a) [] h = never cc
+rest-same (x ∷ a) (y ∷ b) h =
+    let e = eqb (lowerOf x) (lowerOf y) in
+    let r : sameText a b ≡ true = and-right e (sameText a b) h in
+    let same : lowerOf x ≡ lowerOf y = eqb-true (lowerOf x) (lowerOf y) (and-left e (sameText a b) h) in
+    let dots : eqb x 46 ≡ eqb y 46 = sym (unseen (λ (z : ℕ). eqb z 46) dot x) ∙ ap (λ (z : ℕ). eqb z 46) same ∙ unseen (λ (z : ℕ). eqb z 46) dot y in
+    rw dots (go (eqb y 46) r (rest-same a b r))
+  where
+    go : (t : Bool) → sameText a b ≡ true → sameText (afterFirst a) (afterFirst b) ≡ true → sameText (drop (cond t 0 (suc (indexOf 46 a)) + 1) (x ∷ a)) (drop (cond t 0 (suc (indexOf 46 b)) + 1) (y ∷ b)) ≡ true
+    go true r q = r
+    go false r q =
+        let i : suc (indexOf 46 a) + 1 ≡ suc (indexOf 46 a + 1) = omega arith in
+        let j : suc (indexOf 46 b) + 1 ≡ suc (indexOf 46 b + 1) = omega arith in
+        rw (i, j) q
+
 empty-piece : all isLabel (split 46 []) ≡ false
 unfolding all split isLabel
 empty-piece = refl

@@ -15,11 +15,12 @@ use Rattle.lists.specs.Equal.{sameText}
 use Rattle.lists.specs.Split.{indexOf, split, lacks}
 use Rattle.lists.specs.Text.{text}
 use Rattle.lists.proofs.Bools.{and-left, and-right, never}
+use Rattle.lists.proofs.Agree.{text-like}
 use Rattle.lists.proofs.Laws.{drop-next}
 use Rattle.lists.proofs.Split.{split-first, split-after, index-after, index-there}
 use Rattle.lists.proofs.All.{all-lacks}
 use Rattle.names.specs.Name.{labelByte, isLabel, isName, isStarred, isWildcard, afterFirst, matchesName}
-use Rattle.names.proofs.Cover.{name-same, name-short, name-labels, same-nothing}
+use Rattle.names.proofs.Cover.{name-same, rest-same, name-short, name-labels, same-nothing}
 use Rattle.names.proofs.Match.{starred-no-name}
 use Rattle.names.proofs.Name.{dot-outside}
 
@@ -122,3 +123,8 @@ module _ (N n : List ℕ) (named : isName N ≡ true) where
 
       takes : OneLabelBefore N n → length n ≤ 253 → matchesName (wildcard N) n ≡ true
       takes m l = wildcard-says ∙ put-together named m l
+
+-- Names that are equal, ignoring ASCII case, are matched by the same patterns.
+pub matches-like : (p n m : List ℕ) → sameText n m ≡ true → matchesName p n ≡ matchesName p m
+unfolding matchesName
+matches-like p n m h = rw (name-same n m h, text-like p n m h, text-like (drop 2 p) (afterFirst n) (afterFirst m) (rest-same n m h))

@@ -2,7 +2,7 @@
 -- A host of example.com at the clock 605,000; the policy was fetched at 1,000 and is live until 605,800.
 use Prim.Native.Nat.{ℕ}
 use mathlib.Core.Path.{_≡_, refl}
-use mathlib.Core.List.{List, [], _∷_, _++_}
+use mathlib.Core.List.{List, [], _∷_, _++_, map}
 use lib.ListN.{length, replicate}
 use Rattle.lists.specs.Text.{text}
 use Rattle.numbers.specs.Numbers.{written}
@@ -11,6 +11,7 @@ use Rattle.hosts.specs.Arguments.{Arguments, baseOf}
 use Rattle.hosts.specs.Call.{hostAnswer}
 use Rattle.hosts.specs.Demands.{fullOf}
 use Rattle.hosts.specs.Verdicts.{testsOf, conditions, holding, countOf}
+use Rattle.hosts.proofs.NextHops.{withExpanded}
 use Rattle.tweedstork.proofs.Cases.{hostComputed}
 
 -- records: 3 1 1 with the digest of the leaf's key info, and with another; 2 1 1 with that of the issuer's; usage 1
@@ -45,6 +46,7 @@ abbrev fullWith : (origin address policy : ℕ) (host : List ℕ) (tlsa1 : ℕ) 
 fullWith origin address policy host tlsa1 record1 tlsa2 starttls handshake root id = record {
   numbers = record {
     clock = 605000;
+    «expanded_next_hop_given» = 2;
     origin = origin;
     address = address;
     «policy_given» = policy;
@@ -59,6 +61,7 @@ fullWith origin address policy host tlsa1 record1 tlsa2 starttls handshake root 
     «common_name_given» = 2;
   };
   nextHop = nextHop;
+  expandedNextHop = [];
   host = host;
   expanded = expanded;
   body = text "version: STSv1\nmode: enforce\nmx: *.example.com\nmax_age: 604800\n";
@@ -157,3 +160,39 @@ pub each-code :
     ∷ []
 unfolding hostComputed fullOf testsOf countOf
 each-code = refl
+
+-- the name that the next-hop is an alias of
+abbrev further : List ℕ
+further = text "example.net"
+
+-- The expanded next-hop (document 02, No. 3), beside a record 2 1 1 at the expanded name and a leaf that names the expanded next-hop alone: given (1) it is a reference with secure MX;
+-- it is none where it isn't given (2), with insecure MX and with no MX
+pub each-expanded-next-hop :
+    resultOf (withExpanded 1 further (fullWith 1 3 2 mail 1 issuing 4 1 1 1 further))
+    ∷ resultOf (withExpanded 2 further (fullWith 1 3 2 mail 1 issuing 4 1 1 1 further))
+    ∷ resultOf (withExpanded 1 further (fullWith 2 3 2 mail 1 issuing 4 1 1 1 further))
+    ∷ resultOf (withExpanded 1 further (fullWith 3 3 2 nextHop 1 issuing 4 1 1 1 further))
+    ∷ []
+    ≡ alone 3 1
+    ∷ alone 26 1
+    ∷ alone 26 1
+    ∷ alone 26 1
+    ∷ []
+unfolding hostComputed fullOf testsOf countOf
+each-expanded-next-hop = refl
+
+-- other codes: 67. No name: 60, with each origin, before 61 (a host that is no name); where it isn't given it is not looked at
+pub refused-expanded-next-hops :
+    map (λ (a : Arguments). hostAnswer a .number)
+    (withExpanded 0 further (fullWith 1 1 2 mail 3 [] 3 1 1 1 mail)
+    ∷ withExpanded 3 further (fullWith 1 1 2 mail 3 [] 3 1 1 1 mail)
+    ∷ withExpanded 1 (text "a..b") (fullWith 1 1 2 mail 3 [] 3 1 1 1 mail)
+    ∷ withExpanded 1 (text "a..b") (fullWith 2 1 2 mail 3 [] 3 1 1 1 mail)
+    ∷ withExpanded 1 [] (fullWith 3 1 2 nextHop 3 [] 3 1 1 1 mail)
+    ∷ withExpanded 1 (text "a..b") (fullWith 1 1 2 (text "a..b") 3 [] 3 1 1 1 mail)
+    ∷ withExpanded 2 (text "a..b") (fullWith 1 1 2 (text "a..b") 3 [] 3 1 1 1 mail)
+    ∷ withExpanded 2 (text "a..b") (fullWith 1 1 2 mail 3 [] 3 1 1 1 mail)
+    ∷ [])
+    ≡ 67 ∷ 67 ∷ 60 ∷ 60 ∷ 60 ∷ 60 ∷ 61 ∷ 2 ∷ []
+unfolding hostComputed
+refused-expanded-next-hops = refl

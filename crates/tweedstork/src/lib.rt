@@ -25,7 +25,7 @@ use writing::WriteAnswer;
 pub extern "C" fn tweedstork_version() -> u64
     ensures { λ r. ⌜ r ≡ version ⌝ }
 {
-    10200
+    10300
 }
 
 // Which MTA-STS record do these TXT RDATAs hold, and what is its id?
@@ -60,6 +60,8 @@ fn is_bytes(s: &[u8]) -> bool
 pub extern "C" fn tweedstork_judge_host<'a>(
     clock: u64,
     next_hop: &'a [u8],
+    expanded_next_hop_given: u64,
+    expanded_next_hop: &'a [u8],
     origin: u64,
     host: &'a [u8],
     address: u64,
@@ -88,9 +90,10 @@ pub extern "C" fn tweedstork_judge_host<'a>(
     common_name_given: u64,
     common_name: &'a [u8],
 ) -> HostAnswer
-    ensures { λ r. ⌜ Judged (argumentsOf (record { clock = clock; origin = origin; address = address; «policy_given» = «policy_given»; fetched = fetched; «tlsa_answers» = «tlsa_answers»; «tlsa1_result» = «tlsa1_result»; «tlsa2_result» = «tlsa2_result»; starttls = starttls; handshake = handshake; «certificates_given» = «certificates_given»; «trusted_root» = «trusted_root»; «common_name_given» = «common_name_given» }) (now («next_hop» .entry)) (now (host .entry)) (now (expanded .entry)) (now (policy .entry)) (now («tlsa1_lengths» .entry)) (now («tlsa1_records» .entry)) (now («tlsa2_lengths» .entry)) (now («tlsa2_records» .entry)) (now (certificates .entry)) (now («certificate_lengths» .entry)) (now («key_places» .entry)) (now (digests .entry)) (now (paths .entry)) (now («dns_ids» .entry)) (now («dns_id_lengths» .entry)) (now («common_name» .entry))) r ⌝ }
+    ensures { λ r. ⌜ Judged (argumentsOf (record { clock = clock; «expanded_next_hop_given» = «expanded_next_hop_given»; origin = origin; address = address; «policy_given» = «policy_given»; fetched = fetched; «tlsa_answers» = «tlsa_answers»; «tlsa1_result» = «tlsa1_result»; «tlsa2_result» = «tlsa2_result»; starttls = starttls; handshake = handshake; «certificates_given» = «certificates_given»; «trusted_root» = «trusted_root»; «common_name_given» = «common_name_given» }) (now («next_hop» .entry)) (now («expanded_next_hop» .entry)) (now (host .entry)) (now (expanded .entry)) (now (policy .entry)) (now («tlsa1_lengths» .entry)) (now («tlsa1_records» .entry)) (now («tlsa2_lengths» .entry)) (now («tlsa2_records» .entry)) (now (certificates .entry)) (now («certificate_lengths» .entry)) (now («key_places» .entry)) (now (digests .entry)) (now (paths .entry)) (now («dns_ids» .entry)) (now («dns_id_lengths» .entry)) (now («common_name» .entry))) r ⌝ }
 {
     let _next_hop = is_bytes(next_hop);
+    let _expanded_next_hop = is_bytes(expanded_next_hop);
     let _host = is_bytes(host);
     let _expanded = is_bytes(expanded);
     let _policy = is_bytes(policy);
@@ -108,6 +111,7 @@ pub extern "C" fn tweedstork_judge_host<'a>(
     let _common_name = is_bytes(common_name);
     let n = Numbers {
         clock,
+        expanded_next_hop_given,
         origin,
         address,
         policy_given,
@@ -124,6 +128,7 @@ pub extern "C" fn tweedstork_judge_host<'a>(
     hosts::judge_host(
         n,
         next_hop,
+        expanded_next_hop,
         host,
         expanded,
         policy,

@@ -66,6 +66,8 @@ pub(crate) fn with_facts(s: &[u8], values: Fields, f: Fields, end: usize, by: u8
 fn with_fact(s: &[u8], v: Fields, f: Fields, k: usize, by: u8) -> Fields {
     let facts = b"clock n;\
         next_hop b;\
+        expanded_next_hop_given n - yes no;\
+        expanded_next_hop b;\
         origin n - secure_mx insecure_mx no_mx;\
         host b;\
         address n - no_alias_secure no_alias_insecure alias_secure alias_first_step_secure alias_first_step_insecure failed absent;\

@@ -26,6 +26,8 @@ pub fn host(c: &HostCall) -> String {
     [
         n("clock", c.clock),
         s("next_hop", &c.next_hop),
+        n("expanded_next_hop_given", c.expanded_next_hop_given),
+        s("expanded_next_hop", &c.expanded_next_hop),
         n("origin", c.origin),
         s("host", &c.host),
         n("address", c.address),

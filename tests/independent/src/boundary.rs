@@ -23,6 +23,8 @@ extern "C" {
     fn tweedstork_judge_host(
         clock: u64,
         next_hop: *const u8, next_hop_length: usize,
+        expanded_next_hop_given: u64,
+        expanded_next_hop: *const u8, expanded_next_hop_length: usize,
         origin: u64,
         host: *const u8, host_length: usize,
         address: u64,
@@ -96,7 +98,7 @@ pub fn report_faults() {
 const PAGE: usize = 4096;
 const ROOM: usize = 44 * PAGE;
 const BOUNDARY: usize = 16;
-const HOST_SLICES: usize = 16;
+const HOST_SLICES: usize = 17;
 const TABLE: usize = HOST_SLICES; // the slot of a cache's table
 const SLOTS: usize = HOST_SLICES + 1;
 
@@ -104,7 +106,7 @@ const SLOTS: usize = HOST_SLICES + 1;
 const NEAR: usize = 32;
 /// What may stand there, one of them alone or all in turn: bytes that would go on with a text, end it, or spoil it, were they
 /// taken for a part of the slice. They are as many as the slots, so that no two slots have the same beside them.
-const BESIDE: &[u8; 17] = b"a0.\n\r \t-*:;=Z~\0\x80\xff";
+const BESIDE: &[u8; 18] = b"a0.\n\r \t-_*:;=Z~\0\x80\xff";
 
 /// Where the slices of a call are lent.
 #[derive(Clone, Copy, Debug)]
@@ -235,9 +237,9 @@ impl Lender {
 
     pub fn judge_host(&mut self, c: &HostCall, place: Place) -> HostAnswer {
         let slices: [&[u8]; HOST_SLICES] = [
-            &c.next_hop, &c.host, &c.expanded, &c.policy, &c.tlsa[0].lengths, &c.tlsa[0].records, &c.tlsa[1].lengths,
-            &c.tlsa[1].records, &c.certificates, &c.certificate_lengths, &c.key_places, &c.digests, &c.paths, &c.dns_ids,
-            &c.dns_id_lengths, &c.common_name,
+            &c.next_hop, &c.expanded_next_hop, &c.host, &c.expanded, &c.policy, &c.tlsa[0].lengths, &c.tlsa[0].records,
+            &c.tlsa[1].lengths, &c.tlsa[1].records, &c.certificates, &c.certificate_lengths, &c.key_places, &c.digests, &c.paths,
+            &c.dns_ids, &c.dns_id_lengths, &c.common_name,
         ];
         let mut p = [std::ptr::null_mut(); HOST_SLICES];
         for (i, s) in slices.iter().enumerate() {
@@ -247,14 +249,15 @@ impl Lender {
         #[rustfmt::skip]
         let a = unsafe {
             tweedstork_judge_host(
-                c.clock, p[0], c.next_hop.len(), c.origin, p[1], c.host.len(), c.address, p[2], c.expanded.len(),
-                c.policy_given, p[3], c.policy.len(), c.fetched, c.tlsa_answers,
-                c.tlsa[0].result, p[4], c.tlsa[0].lengths.len(), p[5], c.tlsa[0].records.len(),
-                c.tlsa[1].result, p[6], c.tlsa[1].lengths.len(), p[7], c.tlsa[1].records.len(),
+                c.clock, p[0], c.next_hop.len(), c.expanded_next_hop_given, p[1], c.expanded_next_hop.len(), c.origin,
+                p[2], c.host.len(), c.address, p[3], c.expanded.len(),
+                c.policy_given, p[4], c.policy.len(), c.fetched, c.tlsa_answers,
+                c.tlsa[0].result, p[5], c.tlsa[0].lengths.len(), p[6], c.tlsa[0].records.len(),
+                c.tlsa[1].result, p[7], c.tlsa[1].lengths.len(), p[8], c.tlsa[1].records.len(),
                 c.starttls, c.handshake, c.certificates_given,
-                p[8], c.certificates.len(), p[9], c.certificate_lengths.len(), p[10], c.key_places.len(),
-                p[11], c.digests.len(), p[12], c.paths.len(), c.trusted_root,
-                p[13], c.dns_ids.len(), p[14], c.dns_id_lengths.len(), c.common_name_given, p[15], c.common_name.len())
+                p[9], c.certificates.len(), p[10], c.certificate_lengths.len(), p[11], c.key_places.len(),
+                p[12], c.digests.len(), p[13], c.paths.len(), c.trusted_root,
+                p[14], c.dns_ids.len(), p[15], c.dns_id_lengths.len(), c.common_name_given, p[16], c.common_name.len())
         };
         for (i, s) in slices.iter().enumerate() {
             self.check(i, s, place);

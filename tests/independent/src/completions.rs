@@ -55,8 +55,21 @@ fn bare(tlsa: u64, starttls: u64, handshake: u64) -> HostCall {
     }
 }
 
-/// Certificate facts that pass for the record: each form of both certificates is the record's data, cut or filled up.
-fn passing(c: &HostCall, record: &[u8], base: &[u8]) -> HostCall {
+/// The names of which the leaf may have any under usage 2.
+fn references<'a>(c: &'a HostCall, base: &'a [u8]) -> Vec<&'a [u8]> {
+    let mut names = vec![base];
+    if c.origin != 2 {
+        names.push(&c.next_hop);
+    }
+    if c.origin == 1 && c.expanded_next_hop_given == 1 {
+        names.push(&c.expanded_next_hop);
+    }
+    names
+}
+
+/// Certificate facts that pass for the record: each form of both certificates is the record's data, cut or filled up. The leaf names
+/// the reference, and beside a policy the host.
+fn passing(c: &HostCall, record: &[u8], reference: &[u8]) -> HostCall {
     let data = record.get(3..).unwrap_or(b"");
     let sized = |n: usize| {
         let mut d = data.to_vec();
@@ -71,8 +84,9 @@ fn passing(c: &HostCall, record: &[u8], base: &[u8]) -> HostCall {
     f.key_places = list(&[0, n, 0, n]);
     f.digests = [&digests[..], &digests].concat();
     f.paths = list(&[2, 1]);
-    f.dns_ids = [&c.host[..], base].concat();
-    f.dns_id_lengths = list(&[c.host.len() as u64, base.len() as u64]);
+    let host: &[u8] = if c.policy_given == 1 { &c.host } else { b"" };
+    f.dns_ids = [host, reference].concat();
+    f.dns_id_lengths = list(&[host.len() as u64, reference.len() as u64]);
     f
 }
 
@@ -133,7 +147,8 @@ pub fn run_case(lender: &mut Lender, seed: u64, case: u64) -> Result<u64, String
                     }
                 }
             }
-            Some((bare(3, 1, 1), passing(&c, record, &base)))
+            let reference = *r.pick(&references(&c, &base));
+            Some((bare(3, 1, 1), passing(&c, record, reference)))
         }
         _ => None,
     };

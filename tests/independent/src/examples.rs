@@ -115,6 +115,7 @@ pub fn plain() -> HostCall {
     HostCall {
         clock: 605_799,
         next_hop: b"example.com".to_vec(),
+        expanded_next_hop_given: 2,
         origin: 1,
         host: b"mail.example.com".to_vec(),
         address: 1,
@@ -249,6 +250,93 @@ fn policies_of_many_lines(c: &mut Check) {
     c.read(&"\0".repeat(65_537), 50, 0, 0, 0);
 }
 
+/// RFC 7672, 3.2.2: mail to exchange.example.org, an alias of example.com, through mx10.example.com with its record 2 0 1. The
+/// leaf has this DNS-ID.
+fn aliased(dns_id: &str) -> HostCall {
+    HostCall {
+        next_hop: b"exchange.example.org".to_vec(),
+        expanded_next_hop_given: 1,
+        expanded_next_hop: b"example.com".to_vec(),
+        host: b"mx10.example.com".to_vec(),
+        tlsa: [one_record(&[&[2, 0, 1][..], &[6; 32]].concat()), TlsaAnswer::default()],
+        starttls: 1,
+        handshake: 1,
+        certificates_given: 1,
+        certificates: b"leafanchor".to_vec(),
+        certificate_lengths: list(&[4, 6]),
+        key_places: list(&[0, 4, 0, 6]),
+        digests: [[1; 192], [6; 192]].concat(),
+        paths: list(&[1, 1]),
+        trusted_root: 1,
+        dns_ids: dns_id.as_bytes().to_vec(),
+        dns_id_lengths: list(&[dns_id.len() as u64]),
+        common_name_given: 2,
+        ..plain()
+    }
+}
+
+/// Document 02, No. 3: "mail to exchange.example.org through mx10.example.com accepts exchange.example.org, example.com and
+/// mx10.example.com", and what else follows from "a further reference when it differs from the next-hop and MX was secure".
+fn expanded_next_hops(c: &mut Check) {
+    for dns_id in ["exchange.example.org", "example.com", "mx10.example.com", "EXAMPLE.Com", "*.com"] {
+        c.host(dns_id, &aliased(dns_id), (3, 1));
+    }
+    // The alias between the two is no reference.
+    for dns_id in ["mail.example.org", "mx15.example.com", "example.org", "*.mx10.example.com", "com", ""] {
+        c.host(dns_id, &aliased(dns_id), (26, 1));
+    }
+    for (dns_id, number) in [("exchange.example.org", 3), ("example.com", 26), ("mx10.example.com", 3)] {
+        c.host("none given", &HostCall { expanded_next_hop_given: 2, ..aliased(dns_id) }, (number, 1));
+        let itself = HostCall { expanded_next_hop: b"Exchange.Example.ORG".to_vec(), ..aliased(dns_id) };
+        c.host("the next-hop itself", &itself, (number, 1));
+        let not_looked_at = HostCall { expanded_next_hop_given: 2, expanded_next_hop: b"..".to_vec(), ..aliased(dns_id) };
+        c.host("not looked at", &not_looked_at, (number, 1));
+    }
+    for (dns_id, number) in [("exchange.example.org", 26), ("example.com", 26), ("mx10.example.com", 3)] {
+        c.host("insecure MX", &HostCall { origin: 2, ..aliased(dns_id) }, (number, 1));
+    }
+    for (dns_id, number) in [("exchange.example.org", 3), ("example.com", 26), ("mx10.example.com", 26)] {
+        let no_mx = HostCall { origin: 3, host: b"exchange.example.org".to_vec(), ..aliased(dns_id) };
+        c.host("no MX", &no_mx, (number, 1));
+    }
+    // "With no MX the host must equal the next-hop": the expanded one doesn't count.
+    let at_expanded = HostCall { origin: 3, host: b"example.com".to_vec(), ..aliased("example.com") };
+    c.host("no MX, the host is the expanded next-hop", &at_expanded, (61, 0));
+    let common_name = HostCall { common_name_given: 1, common_name: b"example.com".to_vec(), ..aliased("") };
+    c.host("common name beside a DNS-ID", &common_name, (26, 1));
+    c.host("common name", &HostCall { dns_id_lengths: vec![], ..common_name }, (3, 1));
+    // MTA-STS takes the host's name alone.
+    let enforced = HostCall { policy_given: 1, policy: WEEK.to_vec(), fetched: 605_799, ..aliased("example.com") };
+    c.host("beside a policy", &enforced, (27, 1));
+    let alias = HostCall { address: 3, expanded: b"mx.example.net".to_vec(), ..enforced };
+    let both = HostCall { dns_ids: b"example.commx10.example.com".to_vec(), dns_id_lengths: list(&[11, 16]), ..alias.clone() };
+    c.host("beside a policy, records at the expanded host name", &both, (5, 1));
+    c.host("the same, none given", &HostCall { expanded_next_hop_given: 2, ..both }, (26, 1));
+}
+
+/// "checked right after the next-hop with refusal 60", whatever the origin (reading 9 of document 02).
+fn refused_next_hops(c: &mut Check) {
+    let longest = [&vec![b'a'; 63][..], &vec![b'b'; 63], &vec![b'c'; 63], &vec![b'd'; 61]].join(&b'.');
+    let longer = [&longest[..], b"d"].concat();
+    for origin in 1..=3 {
+        let host = if origin == 3 { "exchange.example.org" } else { "mx10.example.com" };
+        let call = HostCall { origin, host: host.as_bytes().to_vec(), ..aliased(host) };
+        let with = |name: &[u8]| HostCall { expanded_next_hop: name.to_vec(), ..call.clone() };
+        c.host("253 bytes", &with(&longest), (3, 1));
+        for name in [&b""[..], b"example.com.", b"a_b.example", b"-a", b"*.example.com", &longer] {
+            let bad = with(name);
+            c.host("no name", &bad, (60, 0));
+            c.host("no name, and no host", &HostCall { host: vec![], ..bad.clone() }, (60, 0));
+            c.host("no name, and no clock", &HostCall { clock: u64::MAX, ..bad.clone() }, (62, 0));
+            c.host("no name, and not given", &HostCall { expanded_next_hop_given: 2, ..bad }, (3, 1));
+        }
+        for code in [0, 3, 256 + 1, (1 << 32) + 1, u64::MAX] {
+            let bad = HostCall { expanded_next_hop_given: code, clock: u64::MAX, ..call.clone() };
+            c.host("no code", &bad, (67, 0));
+        }
+    }
+}
+
 pub fn run(lender: &mut Lender) -> u64 {
     let mut c = Check { lender, passed: 0 };
     let cache = cached(&mut c);
@@ -329,6 +417,9 @@ pub fn run(lender: &mut Lender) -> u64 {
     c.host("no certificate", &with(&named, &|c| {
         (c.certificates, c.certificate_lengths, c.key_places, c.digests, c.paths) = Default::default()
     }), (26, 1));
+
+    expanded_next_hops(&mut c);
+    refused_next_hops(&mut c);
 
     // "Preferences A 20, B 10, C 10 and verdicts A 9, B 22, C 24: 8 with A. With C 9: 8 with C. With A 26, B 22, C 24: 31."
     c.message(&[20, 10, 10], &[9, 22, 24], (8, 0));

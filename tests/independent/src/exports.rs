@@ -78,6 +78,8 @@ pub unsafe extern "C" fn independent_read_policy(body: *const u8, body_length: u
 pub unsafe extern "C" fn independent_judge_host(
     clock: u64,
     next_hop: *const u8, next_hop_length: usize,
+    expanded_next_hop_given: u64,
+    expanded_next_hop: *const u8, expanded_next_hop_length: usize,
     origin: u64,
     host: *const u8, host_length: usize,
     address: u64,
@@ -108,6 +110,8 @@ pub unsafe extern "C" fn independent_judge_host(
     let call = HostCall {
         clock,
         next_hop: lent(next_hop, next_hop_length),
+        expanded_next_hop_given,
+        expanded_next_hop: lent(expanded_next_hop, expanded_next_hop_length),
         origin,
         host: lent(host, host_length),
         address,

@@ -871,16 +871,60 @@ fn presented(r: &mut Random, wanted: &[&[u8]]) -> Vec<u8> {
     }
 }
 
+/// Half of the next-hops are aliases, mostly of another name, sometimes of themselves in some case.
+fn expand_next_hop(r: &mut Random, c: &mut HostCall) {
+    c.expanded_next_hop_given = r.between(1, 2) as u64;
+    c.expanded_next_hop = match r.below(10) {
+        0 => other_case(r, &c.next_hop),
+        1 => c.next_hop.clone(),
+        2 => parent(&c.next_hop).unwrap_or(b"x").to_vec(),
+        _ => name(r),
+    };
+    if c.expanded_next_hop_given == 2 && r.once_in(3) {
+        c.expanded_next_hop = bad_name(r, b"x"); // not looked at
+    }
+}
+
+/// A record of usage 2 for a certificate after the leaf, and a leaf that names the expanded next-hop, and perhaps the host.
+fn name_expanded_next_hop(r: &mut Random, c: &mut HostCall, chain: &Chain) {
+    if chain.certificates.len() < 2 {
+        return;
+    }
+    let i = r.between(1, chain.certificates.len() - 1);
+    c.paths[4 * i..4 * i + 4].copy_from_slice(&[0, 0, 0, 1]);
+    let (selector, kind, start, size) = *r.pick(&[(0, 1, 0, 32), (0, 2, 32, 64), (1, 1, 96, 32), (1, 2, 128, 64)]);
+    let record = [&[2, selector, kind], &chain.digests[192 * i + start..192 * i + start + size]].concat();
+    let answer = TlsaAnswer { result: 1, lengths: list(&[record.len() as u64]), records: record };
+    c.tlsa = [answer.clone(), answer];
+    c.address = if c.address == 3 { 3 } else { 1 };
+    c.tlsa_answers = if c.address == 3 { 2 } else { 1 };
+    if c.address == 3 && r.once_in(2) {
+        c.tlsa[0].result = 3;
+    }
+    c.policy_given = if r.once_in(3) { 2 } else { c.policy_given };
+    let mut ids = vec![matching_pattern(r, &c.expanded_next_hop)];
+    if r.once_in(2) {
+        ids.push(matching_pattern(r, &c.host));
+    }
+    if r.once_in(4) {
+        (c.common_name_given, c.common_name) = (1, ids.swap_remove(0));
+        ids.clear();
+    }
+    (c.dns_ids, c.dns_id_lengths) = (ids.concat(), list(&lengths_of(&ids)));
+}
+
 pub fn host(r: &mut Random) -> HostCall {
     let mut c = HostCall::default();
     // Half of the scenarios come to the certificate checks, unless a mutation stops them before.
     let far = r.once_in(2);
     // names
-    let domain = name(r);
+    c.next_hop = name(r);
     c.origin = *r.pick(&[1, 1, 2, 3]);
-    c.next_hop = domain.clone();
+    expand_next_hop(r, &mut c);
+    let of_alias = c.expanded_next_hop_given == 1 && r.once_in(2);
+    let domain = if of_alias { c.expanded_next_hop.clone() } else { c.next_hop.clone() };
     c.host = match r.below(5) {
-        _ if c.origin == 3 => same(r, &domain),
+        _ if c.origin == 3 => same(r, &c.next_hop),
         0 => name(r),
         1 => same(r, &domain),
         _ => {
@@ -955,7 +999,8 @@ pub fn host(r: &mut Random) -> HostCall {
     c.digests = chain.digests.clone();
     c.paths = list(&chain.paths);
     c.trusted_root = if r.once_in(6) { 2 } else { 1 };
-    let wanted: Vec<Vec<u8>> = vec![c.host.clone(), c.host.clone(), c.next_hop.clone(), c.expanded.clone()];
+    let wanted: Vec<Vec<u8>> =
+        vec![c.host.clone(), c.host.clone(), c.next_hop.clone(), c.expanded.clone(), c.expanded_next_hop.clone()];
     let wanted: Vec<&[u8]> = wanted.iter().filter(|w| !w.is_empty()).map(|w| &w[..]).collect();
     let ids: Vec<Vec<u8>> = (0..match r.below(60) {
         0 => 64,
@@ -1031,6 +1076,9 @@ pub fn host(r: &mut Random) -> HostCall {
         let n = r.below(9);
         c.dns_id_lengths = r.bytes(n);
     }
+    if far && r.once_in(4) {
+        name_expanded_next_hop(r, &mut c, &chain);
+    }
     let mutations = match r.below(10) {
         0..=5 => 0,
         6..=8 => 1,
@@ -1092,7 +1140,7 @@ fn mutate_bytes(r: &mut Random, s: &mut Vec<u8>) {
 
 fn mutate_host(r: &mut Random, c: &mut HostCall) {
     let clock = |r: &mut Random| *r.pick(&[0, LAST_CLOCK, LAST_CLOCK + 1, LAST_CLOCK + 2, 1 << 38, u64::MAX, 1 << 63]);
-    match r.below(40) {
+    match r.below(43) {
         0 => c.clock = clock(r),
         1 => c.fetched = clock(r),
         2 => c.next_hop = bad_name(r, &c.next_hop.clone()),
@@ -1101,7 +1149,7 @@ fn mutate_host(r: &mut Random, c: &mut HostCall) {
         5 => c.origin = 3,
         6 => {
             let code = bad_code(r);
-            match r.below(11) {
+            match r.below(12) {
                 0 => c.origin = code,
                 1 => c.address = code,
                 2 => c.policy_given = code,
@@ -1112,6 +1160,7 @@ fn mutate_host(r: &mut Random, c: &mut HostCall) {
                 7 => c.handshake = code,
                 8 => c.certificates_given = code,
                 9 => c.trusted_root = code,
+                10 => c.expanded_next_hop_given = code,
                 _ => c.common_name_given = code,
             }
         }
@@ -1260,6 +1309,17 @@ fn mutate_host(r: &mut Random, c: &mut HostCall) {
             c.tlsa[i].lengths.extend(list(&[n as u64]));
             c.tlsa[i].records.extend(&[3, 1, 1][..n]);
         }
+        39 => {
+            let n = *r.pick(&[253, 253, 254]);
+            c.expanded_next_hop = name_of_length(r, n);
+        }
+        40 => {
+            c.expanded_next_hop = bad_name(r, &c.expanded_next_hop.clone());
+            if r.once_in(3) {
+                c.host = bad_name(r, &c.host.clone());
+            }
+        }
+        41 => c.expanded_next_hop_given = 3 - c.expanded_next_hop_given.clamp(1, 2),
         _ => {
             let i = r.below(2);
             c.tlsa[i].result = r.between(1, 4) as u64;

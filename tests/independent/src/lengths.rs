@@ -338,10 +338,11 @@ fn txt_tags(c: &mut Check) {
 
 // --------------------------------------------------------------------------------------------------------------------- names
 
-/// As next-hop, host, expanded name and pattern.
+/// As next-hop, expanded next-hop, host, expanded name and pattern.
 fn each_use(c: &mut Check, name: &[u8]) {
     let alias = HostCall { address: 3, tlsa_answers: 0, expanded: b"mx.example.net".to_vec(), ..plain() };
     c.host(&HostCall { next_hop: name.to_vec(), ..alias.clone() });
+    c.host(&HostCall { expanded_next_hop_given: 1, expanded_next_hop: name.to_vec(), ..alias.clone() });
     c.host(&HostCall { host: name.to_vec(), ..alias.clone() });
     c.host(&HostCall { expanded: name.to_vec(), ..alias });
     let star = [&b""[..], b"*."][name.len() % 2];
@@ -413,7 +414,14 @@ fn compared_names(c: &mut Check) {
                 c.host(&HostCall { origin: 3, host: host.clone(), next_hop: other.to_vec(), ..plain() });
                 let mut anchored = HostCall { host: host.clone(), ..shown(&[b"leaf", b"root"], 0) };
                 anchored.tlsa[0] = one_record(b"\x02\0\0root");
-                c.host(&HostCall { common_name_given: 1, common_name: other.to_vec(), ..anchored });
+                let named = HostCall { common_name_given: 1, common_name: other.to_vec(), ..anchored };
+                c.host(&HostCall {
+                    expanded_next_hop_given: 1,
+                    expanded_next_hop: host.clone(),
+                    host: plain().host,
+                    ..named.clone()
+                });
+                c.host(&named);
             });
         }
     }

@@ -14,11 +14,13 @@ mod faults;
 mod histories;
 mod inputs;
 mod lengths;
+mod next_hops;
 mod random;
 
 use boundary::{Lender, Place};
 use faults::Faults;
 use independent_rules::rules;
+use next_hops::NextHops;
 use random::Random;
 use std::collections::BTreeMap;
 use std::fmt::Debug;
@@ -32,7 +34,7 @@ const ANSWERS: [&[u64]; 4] = [
     &[1, 2, 3, 4, 5, 10, 11, 12, 13, 14, 20, 21, 22, 23, 24, 25, 26, 27, 50, 52, 53, 54, 55, 56, 57, 60, 61, 62, 64, 65, 66, 67],
     &[1, 2, 3, 4, 5, 8, 30, 31, 63, 67],
 ];
-/// Of so many cases each answer of a call has to come, and each fault of a policy in every place.
+/// Of so many cases each answer of a call has to come, each fault of a policy in every place, and each way of the expanded next-hop.
 const MANY: u64 = 100_000;
 const THREADS: u64 = 2;
 
@@ -71,6 +73,7 @@ fn run_case(lender: &mut Lender, seed: u64, call: usize, case: u64, seen: &mut S
             let c = inputs::host(&mut r);
             let ours = rules::judge_host(&c);
             let theirs = lender.judge_host(&c, place);
+            seen.next_hops.count(&c, ours.0);
             outcome(theirs.0, ours, theirs, move || arguments::host(&c))
         }
         _ => {
@@ -84,11 +87,12 @@ fn run_case(lender: &mut Lender, seed: u64, call: usize, case: u64, seen: &mut S
 
 type Table = BTreeMap<u64, u64>;
 
-/// How often each answer number of a call came, and where the lines that offend stood.
+/// How often each answer number of a call came, where the lines that offend stood, and what hung on the expanded next-hop.
 #[derive(Default)]
 struct Seen {
     numbers: Table,
     faults: Faults,
+    next_hops: NextHops,
 }
 
 impl Seen {
@@ -102,8 +106,12 @@ impl Seen {
             self.faults.report();
             missing = missing.or(self.faults.missing());
         }
+        if CALLS[call] == "host" {
+            self.next_hops.report();
+            missing = missing.or(self.next_hops.missing(cases));
+        }
         if let Some(missing) = missing.filter(|_| cases >= MANY) {
-            println!("FAILED: no case gave {missing}");
+            println!("FAILED: too few cases gave {missing}");
             std::process::exit(1);
         }
     }

@@ -1,7 +1,7 @@
 //! The rules of document 01 ("What is being built, with exact rules"), and what document 02's No. 2 ("Say what is wrong with a
-//! policy") makes of them, written a second time and independently of the library: plain safe Rust over whole values, with no
-//! thought for speed. Comments quote document 01, or 02 where they name it; "reading n" is the list of readings in
-//! docs/DECISIONS.md.
+//! policy") and No. 3 ("The third reference name") make of them, written a second time and independently of the library: plain
+//! safe Rust over whole values, with no thought for speed. Comments quote document 01, or 02 where they name it; "reading n" is the
+//! list of readings in docs/DECISIONS.md.
 
 use std::ops::Deref;
 
@@ -335,6 +335,8 @@ pub struct TlsaAnswer<B = Vec<u8>> {
 pub struct HostCall<B = Vec<u8>> {
     pub clock: u64,
     pub next_hop: B,
+    pub expanded_next_hop_given: u64,
+    pub expanded_next_hop: B,
     pub origin: u64,
     pub host: B,
     pub address: u64,
@@ -419,6 +421,10 @@ fn judged<B: Deref<Target = [u8]>>(call: &HostCall<B>) -> Result<HostAnswer, u64
         return Err(62);
     }
     if !is_name(&call.next_hop) {
+        return Err(60);
+    }
+    // Document 02, No. 3: "an expanded next-hop name, or none, checked right after the next-hop with refusal 60".
+    if call.expanded_next_hop_given == 1 && !is_name(&call.expanded_next_hop) {
         return Err(60);
     }
     // "With no MX the host must equal the next-hop, else 61."
@@ -509,6 +515,12 @@ fn judged<B: Deref<Target = [u8]>>(call: &HostCall<B>) -> Result<HostAnswer, u64
         if call.origin != 2 {
             references.push(&call.next_hop);
         }
+        // Document 02, No. 3: "the fully expanded next-hop as a further reference when it differs from the next-hop and MX was
+        // secure".
+        let differs = !call.expanded_next_hop.eq_ignore_ascii_case(&call.next_hop);
+        if call.origin == 1 && call.expanded_next_hop_given == 1 && differs {
+            references.push(&call.expanded_next_hop);
+        }
         if !dane_passes(&records, &facts, &references) {
             return Ok((26, questions));
         }
@@ -529,7 +541,8 @@ fn judged<B: Deref<Target = [u8]>>(call: &HostCall<B>) -> Result<HostAnswer, u64
 
 /// "an input code or yes/no number outside its named choices, or over two TLSA answers"; what isn't supplied is not looked at.
 fn codes_are_choices<B: Deref<Target = [u8]>>(call: &HostCall<B>) -> bool {
-    let always = (1..=3).contains(&call.origin)
+    let always = (1..=2).contains(&call.expanded_next_hop_given)
+        && (1..=3).contains(&call.origin)
         && (1..=7).contains(&call.address)
         && (1..=2).contains(&call.policy_given)
         && call.tlsa_answers <= 2

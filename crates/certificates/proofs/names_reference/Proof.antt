@@ -12,8 +12,8 @@ returns c = search reference-laws
 enum-told : tie.Need-enum-told
 enum-told c = search reference-laws
 
-leaf-names-requires-2 : tie.Need-leaf-names-requires-2
-leaf-names-requires-2 c κs = search reference-laws
+names-next-hop-requires : tie.Need-names-next-hop-requires
+names-next-hop-requires c κs = search reference-laws
 
 enum-told-2 : tie.Need-enum-told-2
 enum-told-2 c = search reference-laws
@@ -21,8 +21,8 @@ enum-told-2 c = search reference-laws
 enum-told-3 : tie.Need-enum-told-3
 enum-told-3 c = search reference-laws
 
-leaf-names-requires-3 : tie.Need-leaf-names-requires-3
-leaf-names-requires-3 c κs = search reference-laws
+leaf-names-requires-2 : tie.Need-leaf-names-requires-2
+leaf-names-requires-2 c κs = search reference-laws
 
 returns-2 : tie.Need-returns-2
 returns-2 c = search reference-laws
@@ -40,10 +40,10 @@ names-reference-spec =
     leaf-names-requires
     returns
     enum-told
-    leaf-names-requires-2
+    names-next-hop-requires
     enum-told-2
     enum-told-3
-    leaf-names-requires-3
+    leaf-names-requires-2
     returns-2
     returns-3
     returns-4)

@@ -21,8 +21,14 @@ is-within-requires-3 c κs = search base-laws
 returns-3 : tie.Need-returns-3
 returns-3 c = search base-laws
 
+is-within-requires-4 : tie.Need-is-within-requires-4
+is-within-requires-4 c κs = search base-laws
+
 returns-4 : tie.Need-returns-4
 returns-4 c = search base-laws
+
+returns-5 : tie.Need-returns-5
+returns-5 c = search base-laws
 
 pub base-codes-fit-spec : {M : Type 1} → statement M
 base-codes-fit-spec =
@@ -34,4 +40,6 @@ base-codes-fit-spec =
     returns-2
     is-within-requires-3
     returns-3
-    returns-4)
+    is-within-requires-4
+    returns-4
+    returns-5)

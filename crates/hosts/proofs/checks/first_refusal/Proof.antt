@@ -15,8 +15,8 @@ clocks-fit-requires c κs = search first-laws
 returns-2 : tie.Need-returns-2
 returns-2 c = search first-laws
 
-is-name-requires : tie.Need-is-name-requires
-is-name-requires c κs = search first-laws
+next-hops-fit-requires : tie.Need-next-hops-fit-requires
+next-hops-fit-requires c κs = search first-laws
 
 returns-3 : tie.Need-returns-3
 returns-3 c = search first-laws
@@ -38,7 +38,7 @@ first-refusal-spec =
     returns
     clocks-fit-requires
     returns-2
-    is-name-requires
+    next-hops-fit-requires
     returns-3
     host-names-fit-requires
     returns-4
