@@ -26,6 +26,7 @@ static const struct promise {
     {CACHE, NULL, 1.5, "policy cache",
      "domains and ids are filled up with zeros, which plain C reads with the C library's `memchr` and `memcmp`, chosen by the processor; the archive calls neither"},
     {DNS_IDS, NULL, 1.5, "DNS-IDs", "until names are compared by their lengths first and then by byte pairs from the right, which is planned"},
+    {CALLS, aliased_next_hop, 1.5, "the leaf names the third reference", "as DNS-IDs: plain C sees by its length alone that the leaf's name is neither of the first two"},
     {HOSTS, NULL, 1.5, "hosts of a message",
      "the form of that walk is fixed, arrays of 32 by value with a count: the library reads the lists into arrays and walks those, plain C walks the lists themselves"},
     {DECISIONS, whole_certificate_decision, 1.5, "the decision with a whole certificate (record 3 0 0 of 1.5 KB)",

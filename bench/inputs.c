@@ -528,6 +528,8 @@ static struct facts *add_host(struct inputs *inputs, enum table table, const cha
     return &input->facts[0];
 }
 
+const char aliased_next_hop[] = "host, 1 TLSA record 2 1 1, 8 certificates, named by the expanded next-hop";
+
 static void add_single_hosts(struct inputs *inputs)
 {
     struct facts *f = add_host(inputs, CALLS, "host, 1 TLSA record 3 1 1, 8 certificates", 8, TWEEDSTORK_DANE, 1);
@@ -540,7 +542,7 @@ static void add_single_hosts(struct inputs *inputs)
     f = add_host(inputs, CALLS, "host, 1 TLSA record 2 1 1, 8 certificates", 8, TWEEDSTORK_DANE, 1);
     give_records(f, 1, 2);
     match(f, 0, 7);
-    f = add_host(inputs, CALLS, "host, 1 TLSA record 2 1 1, 8 certificates, named by the expanded next-hop", 8, TWEEDSTORK_DANE, 1);
+    f = add_host(inputs, CALLS, aliased_next_hop, 8, TWEEDSTORK_DANE, 1);
     give_records(f, 1, 2);
     match(f, 0, 7);
     give_alias(f);

@@ -83,8 +83,8 @@ struct inputs {
 /* New inputs, in memory that no other inputs share. */
 struct inputs *build_inputs(void);
 
-/* The name of the decision by a TLSA record that is a whole certificate. */
-extern const char whole_certificate_decision[];
+/* The names of two inputs with a promise of their own: a leaf that names the third reference; a record that is a whole certificate. */
+extern const char aliased_next_hop[], whole_certificate_decision[];
 
 /* The first input of a table. */
 const struct input *first_input(const struct inputs *inputs, enum table table);

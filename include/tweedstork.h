@@ -498,8 +498,9 @@ struct tweedstork_host_answer {
  *            Safely left out are certificates after the leaf whose path doesn't verify, with their key place, digests and
  *            path; and DNS-IDs that can match none of host, expanded name, next-hop and expanded next-hop, as long as one
  *            DNS-ID stays.
- *          - 60 may come of the recipient's address (user@my_shop.example), or of what its domain is an alias of: it holds for
- *            every host, and by these rules nobody may be given the message: the relay returns or delays it.
+ *          - 60 may come of the recipient's address (user@my_shop.example): it holds for every host, and by these rules nobody
+ *            may be given the message: the relay returns or delays it. Where the next-hop is a name it comes of the expanded
+ *            next-hop. No certificate can have what is no name, so the relay may ask with TWEEDSTORK_NO instead.
  *          - 50 and 52 to 57 cannot come where the relay gives only bodies that tweedstork_read_policy accepted.
  *          - 62, 66 and 67 are mistakes of the relay's own.
  * Leaves:  all memory as it was.

@@ -1,7 +1,7 @@
 -- The returns of the functions on the leaf's names. Assumes nothing.
 use Prim.Native.Nat.{ℕ}
 use mathlib.Core.Path.{_≡_, refl, sym, _∙_}
-use mathlib.Core.Bool.{Bool, true, false, or-false}
+use mathlib.Core.Bool.{Bool, true, false, cond, or-false}
 use mathlib.Core.List.{List, [], _∷_}
 use mathlib.Core.Option.{Option}
 use native.Mathlib.Omega.{arith}
@@ -11,6 +11,8 @@ use borrow.Author.Tests.{not-true, not-false}
 use Rattle.lists.specs.Bytes.{any}
 use Rattle.lists.specs.Equal.{sameText}
 use Rattle.numbers.specs.Pieces.{cut}
+use Rattle.names.specs.Name.{someMatches}
+use Rattle.names.proofs.Exactly.{some-like}
 use Rattle.certificates.specs.Facts.{when, commonNameOf}
 use Rattle.certificates.specs.Checks.{furtherReference, references, leafNames}
 use Rattle.certificates.specs.declared.Origin.{Origin}
@@ -43,27 +45,26 @@ module _ (p : List ℕ → Bool) (s ns common : List ℕ) (given : Bool) (n : �
 
 pub ruleset leaf-names-laws = (leaf-ids, leaf-nameless, leaf-common, not-true, not-false, needs)
 
--- `names_next_hop`: f, s and r are what the calls gave, p is the test of a reference
-module _ (p : List ℕ → Bool) (next expanded : List ℕ) (given f : Bool) (fe : f ≡ p next) where
-  pub next-hop-named : f ≡ true → true ≡ any p (next ∷ furtherReference next (when given expanded))
+-- `names_next_hop`: f and r are what the calls gave, ids are the names that count. Where the expanded next-hop is the next-hop, it is matched as that is
+module _ (ids : List (List ℕ)) (next expanded : List ℕ) (given f : Bool) (fe : f ≡ someMatches ids next) where
+  pub next-hop-named : f ≡ true → true ≡ any (someMatches ids) (next ∷ furtherReference next (when given expanded))
   unfolding any
   next-hop-named t = rw (sym fe ∙ t)
 
   module _ (ff : f ≡ false) where
-    pub next-hop-alone : given ≡ false → false ≡ any p (next ∷ furtherReference next (when given expanded))
+    pub next-hop-alone : given ≡ false → false ≡ any (someMatches ids) (next ∷ furtherReference next (when given expanded))
     unfolding furtherReference any
     next-hop-alone h = rw (sym fe ∙ ff, h)
 
-    module _ (h : given ≡ true) (s : Bool) (se : s ≡ sameText expanded next) where
-      pub next-hop-same : s ≡ true → false ≡ any p (next ∷ furtherReference next (when given expanded))
-      unfolding furtherReference any
-      next-hop-same t = rw (sym fe ∙ ff, h, sym se ∙ t)
+    pub next-hop-further : given ≡ true → (r : Bool) → r ≡ someMatches ids expanded → r ≡ any (someMatches ids) (next ∷ furtherReference next (when given expanded))
+    unfolding furtherReference any
+    next-hop-further h r e = rw (sym fe ∙ ff, h) (e ∙ go (sameText expanded next) refl)
+      where
+        go : (t : Bool) → sameText expanded next ≡ t → someMatches ids expanded ≡ any (someMatches ids) (cond t [] (expanded ∷ []))
+        go true s = some-like ids expanded next s ∙ sym fe ∙ ff
+        go false s = sym (or-false (someMatches ids expanded))
 
-      pub next-hop-differs : s ≡ false → (r : Bool) → r ≡ p expanded → r ≡ any p (next ∷ furtherReference next (when given expanded))
-      unfolding furtherReference any
-      next-hop-differs t r e = rw (sym fe ∙ ff, h, sym se ∙ t, or-false (p expanded)) e
-
-pub ruleset next-hop-laws = (next-hop-named, next-hop-alone, next-hop-same, next-hop-differs, not-true, not-false, needs)
+pub ruleset next-hop-laws = (next-hop-named, next-hop-alone, next-hop-further, not-true, not-false, needs)
 
 -- `names_reference`: f and r are what the calls gave, p is the test of a reference
 first-hit : (p : List ℕ → Bool) (origin : Origin) (domain next : List ℕ) (expanded : Option (List ℕ)) → p domain ≡ true → any p (references origin domain next expanded) ≡ true

@@ -6,8 +6,8 @@ use mathlib.Core.List.{List, [], _∷_}
 use mathlib.Core.Option.{Option, none, some}
 use Rattle.lists.specs.Bytes.{any}
 use Rattle.lists.specs.Equal.{sameText}
-use Rattle.names.specs.Name.{matchesName, someMatches}
-use Rattle.names.proofs.Exactly.{matches-like}
+use Rattle.names.specs.Name.{someMatches}
+use Rattle.names.proofs.Exactly.{some-like}
 use Rattle.certificates.specs.Facts.{Presented}
 use Rattle.certificates.specs.Checks.{furtherReference, references, leafNames, namesReference}
 use Rattle.certificates.specs.declared.Origin.{Origin}
@@ -47,14 +47,11 @@ module _ (domain nextHop : List ℕ) where
         named : List ℕ → Bool
         named n = someMatches (leafNames (p .dnsIds) (p .commonName)) n
 
-        alike : sameText expanded nextHop ≡ true → named expanded ≡ named nextHop
-        alike h = λ i. any (λ (q : List ℕ). matches-like q expanded nextHop h i) (leafNames (p .dnsIds) (p .commonName))
-
         twice : (d n : Bool) → (d || (n || false)) ≡ (d || (n || (n || false)))
         twice true n = refl
         twice false true = refl
         twice false false = refl
 
         go : (t : Bool) → sameText expanded nextHop ≡ t → any named (references SecureMx domain nextHop (some expanded)) ≡ (named domain || (named nextHop || (named expanded || false)))
-        go true e = rw (same-adds-nothing e, alike e) (twice (named domain) (named nextHop))
+        go true e = rw (same-adds-nothing e, some-like (leafNames (p .dnsIds) (p .commonName)) expanded nextHop e) (twice (named domain) (named nextHop))
         go false e = rw (third-reference e)

@@ -332,7 +332,8 @@ fn leaf_names(
     names::matches(common_name, reference)
 }
 
-// Whether it matches the next-hop, or the expanded next-hop where that is given and differs.
+// Whether it matches the next-hop, or the expanded next-hop where that is given. The two are not compared: where they are the same name,
+// the second is matched as the first was.
 fn names_next_hop(
     next_hop: &[u8],
     expanded_given: bool,
@@ -349,10 +350,6 @@ fn names_next_hop(
         return true;
     }
     if !expanded_given {
-        return false;
-    }
-    let same = lists::equal_ignoring_case(expanded_next_hop, next_hop);
-    if same {
         return false;
     }
     leaf_names(dns_ids, lengths, given, common_name, expanded_next_hop)

@@ -10,7 +10,7 @@ use lib.Dec.{eqb, ltb}
 use lib.ListN.{length, getD, take, drop, length-append, take-append-drop, drop-of-length-le}
 use lib.Seq.{drop-append-add}
 use borrow.Author.Tests.{ltb-true, ltb-false, le-leb}
-use Rattle.lists.specs.Bytes.{within, all}
+use Rattle.lists.specs.Bytes.{within, all, any}
 use Rattle.lists.specs.Equal.{sameText}
 use Rattle.lists.specs.Split.{indexOf, split, lacks}
 use Rattle.lists.specs.Text.{text}
@@ -19,7 +19,7 @@ use Rattle.lists.proofs.Agree.{text-like}
 use Rattle.lists.proofs.Laws.{drop-next}
 use Rattle.lists.proofs.Split.{split-first, split-after, index-after, index-there}
 use Rattle.lists.proofs.All.{all-lacks}
-use Rattle.names.specs.Name.{labelByte, isLabel, isName, isStarred, isWildcard, afterFirst, matchesName}
+use Rattle.names.specs.Name.{labelByte, isLabel, isName, isStarred, isWildcard, afterFirst, matchesName, someMatches}
 use Rattle.names.proofs.Cover.{name-same, rest-same, name-short, name-labels, same-nothing}
 use Rattle.names.proofs.Match.{starred-no-name}
 use Rattle.names.proofs.Name.{dot-outside}
@@ -128,3 +128,6 @@ module _ (N n : List ℕ) (named : isName N ≡ true) where
 pub matches-like : (p n m : List ℕ) → sameText n m ≡ true → matchesName p n ≡ matchesName p m
 unfolding matchesName
 matches-like p n m h = rw (name-same n m h, text-like p n m h, text-like (drop 2 p) (afterFirst n) (afterFirst m) (rest-same n m h))
+
+pub some-like : (ps : List (List ℕ)) (n m : List ℕ) → sameText n m ≡ true → someMatches ps n ≡ someMatches ps m
+some-like ps n m h = λ i. any (λ (p : List ℕ). matches-like p n m h i) ps

@@ -12,26 +12,13 @@ returns c = search next-hop-laws
 returns-2 : tie.Need-returns-2
 returns-2 c = search next-hop-laws
 
-equal-ignoring-case-requires : tie.Need-equal-ignoring-case-requires
-equal-ignoring-case-requires c κs = search next-hop-laws
+leaf-names-requires-2 : tie.Need-leaf-names-requires-2
+leaf-names-requires-2 c κs = search next-hop-laws
 
 returns-3 : tie.Need-returns-3
 returns-3 c = search next-hop-laws
 
-leaf-names-requires-2 : tie.Need-leaf-names-requires-2
-leaf-names-requires-2 c κs = search next-hop-laws
-
-returns-4 : tie.Need-returns-4
-returns-4 c = search next-hop-laws
-
 pub names-next-hop-spec : {M : Type 1} → statement M
 names-next-hop-spec =
     tie.close
-    (tie.spec
-    leaf-names-requires
-    returns
-    returns-2
-    equal-ignoring-case-requires
-    returns-3
-    leaf-names-requires-2
-    returns-4)
+    (tie.spec leaf-names-requires returns returns-2 leaf-names-requires-2 returns-3)
