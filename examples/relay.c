@@ -245,6 +245,19 @@ static int says(const struct scenario_host *host, uint64_t question)
     }
 }
 
+/* Asks once. Where the expanded next-hop is no name, asks without it: no certificate can have such a name. */
+static uint64_t ask(struct tweedstork_host_facts *facts)
+{
+    uint64_t answer = tweedstork_judge_facts(facts).number;
+
+    printf("  library %" PRIu64 ": %s\n", answer, tweedstork_answer_words(answer));
+    if (answer != TWEEDSTORK_BAD_NEXT_HOP || facts->expanded_next_hop_given == TWEEDSTORK_NO)
+        return answer;
+    facts->expanded_next_hop_given = TWEEDSTORK_NO;
+    printf("  relay: asks without the expanded next-hop\n");
+    return ask(facts);
+}
+
 /*
  * A host's verdict or refusal: ask, learn, ask again. The library asks for no fact that it has, so this ends; a question that came
  * twice would mean that the relay left its fact zero. Zero, that nobody answered, where the connection is lost: that is no fact
@@ -257,8 +270,7 @@ static uint64_t judge(const struct scenario_message *m, const struct policy *pol
 
     do {
         before = answer;
-        answer = tweedstork_judge_facts(&facts).number;
-        printf("  library %" PRIu64 ": %s\n", answer, tweedstork_answer_words(answer));
+        answer = ask(&facts);
         if (answer == before || !says(host, answer))
             not_said(&host->name);
         if (answer == TWEEDSTORK_ASK_STARTTLS && host->lost) {
@@ -341,8 +353,8 @@ static int deliver(const struct scenario_message *m, const struct policy *policy
         printf("library %" PRIu64 ": %s", answer.number, tweedstork_answer_words(answer.number));
         if (answer.number == TWEEDSTORK_TRY_HOST)
             tried = try_host(m, policy, &hosts, (size_t)answer.position);
-        if (tried == TWEEDSTORK_BAD_NEXT_HOP) { /* of the recipient's domain, and so the same for every host */
-            printf("relay: returns the message, since its next-hop, or what that is an alias of, is no name\n");
+        if (tried == TWEEDSTORK_BAD_NEXT_HOP) { /* of the recipient's address, and so the same for every host */
+            printf("relay: returns the message, since its next-hop is no name\n");
             return 1;
         }
         if (tried > TWEEDSTORK_MTA_STS_MISMATCH && !is_theirs(tried)) {

@@ -452,8 +452,8 @@ struct tweedstork_host_answer {
  *          is delivered in cleartext).
  *
  *          The expanded next-hop is one more name that a certificate may have under usage 2 (RFC 7672, 3.2.2), with
- *          TWEEDSTORK_SECURE_MX only; with the other origins it is checked and not used. One that is the next-hop itself
- *          changes nothing.
+ *          TWEEDSTORK_SECURE_MX only: take it from the MX answer that is secure, and from no other lookup. With the other
+ *          origins it is checked and not used, so TWEEDSTORK_NO will do. One that is the next-hop itself changes nothing.
  *
  *          A TXT record that is missing or refused, a fetch that fails, or a body that tweedstork_read_policy refuses never
  *          replaces an earlier policy that is still live: the relay goes on giving that one, with the clock of its own fetch,
@@ -604,8 +604,9 @@ struct tweedstork_tlsa_answer {
  * certificates are given, trusted_root and common_name_given (67).
  *
  * No call can refuse these: with a policy fetched is never zero (the policy would be stale), a secure TLSA answer has all its
- * records (without them it is the same as absent), and clock is never zero (every policy would stay live). The first two can end
- * in delivery in cleartext.
+ * records (without them it is the same as absent), clock is never zero (every policy would stay live), and expanded_next_hop is
+ * from the secure MX answer (any other name would be one that the certificate may have). The first two can end in delivery in
+ * cleartext, the last in delivery to somebody else's server.
  */
 struct tweedstork_host_facts {
     uint64_t clock;

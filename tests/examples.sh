@@ -77,7 +77,7 @@ expect 'relay: keeps the message and tries again later' relay "$files/name"
 sed -e '/^host/i host 5 mail_.example.com\n address secure' examples/scenarios/dane.txt >"$files/odd"
 expect 'relay: sends the message to mail.example.com, over the TLS connection whose certificate passed' relay "$files/odd"
 printf 'clock 1\nnext-hop example..com\nmx secure\nhost 10 mail.example.com\naddress secure\n' >"$files/hop"
-expect 'relay: returns the message, since its next-hop, or what that is an alias of, is no name' relay "$files/hop"
+expect 'relay: returns the message, since its next-hop is no name' relay "$files/hop"
 answers '8 60' "$files/hop"
 # Document 02, No. 3: the domain that the next-hop is an alias of counts where it is given, is a name, and MX was secure.
 aliased() { # aliased SED-EDIT: of the scenario with the alias, into $files/alias
@@ -88,9 +88,13 @@ aliased '/^expanded-next-hop/d'
 answers '8 14 10 11 12 26 8 14 10 11 12 26 31' "$files/alias"
 aliased 's/^mx .*/mx insecure/'
 answers '8 14 10 11 12 26 8 14 10 11 12 26 31' "$files/alias"
-aliased 's/^expanded-next-hop .*/expanded-next-hop example.com./'
-answers '8 60' "$files/alias"
-expect 'relay: returns the message, since its next-hop, or what that is an alias of, is no name' relay "$files/alias"
+aliased 's/^expanded-next-hop .*/expanded-next-hop _shop.example/'
+answers '8 60 14 10 11 12 26 8 60 14 10 11 12 26 31' "$files/alias"
+aliased 's/^expanded-next-hop .*/expanded-next-hop _shop.example/; s/dns-id mail.example.net/dns-id exchange.example.org/'
+answers '8 60 14 10 11 12 3 3' "$files/alias"
+aliased 's/^expanded-next-hop .*/expanded-next-hop _shop.example/; s/^next-hop .*/next-hop my_shop.example/'
+answers '8 60 60' "$files/alias"
+expect 'relay: returns the message, since its next-hop is no name' relay "$files/alias"
 aliased 's/dns-id mail.example.net/dns-id exchange.example.org/'
 answers '8 14 10 11 12 3 3' "$files/alias"
 expect 'relay: sends the message to backup.example.com, over TLS, whoever the server is' relay examples/scenarios/connection-lost.txt

@@ -1,15 +1,17 @@
 -- The references with the expanded next-hop (RFC 7672, 3.2.2; document 02, No. 3): with none they are what they were, where it adds nothing, and what it adds. Assumes nothing.
 use Prim.Native.Nat.{ℕ}
 use mathlib.Core.Path.{_≡_, refl, sym, _∙_}
-use mathlib.Core.Bool.{Bool, true, false, _||_}
+use mathlib.Core.Bool.{Bool, true, false, _&&_, _||_}
 use mathlib.Core.List.{List, [], _∷_}
 use mathlib.Core.Option.{Option, none, some}
+use lib.Dec.{eqb}
 use Rattle.lists.specs.Bytes.{any}
 use Rattle.lists.specs.Equal.{sameText}
 use Rattle.names.specs.Name.{someMatches}
 use Rattle.names.proofs.Exactly.{some-like}
-use Rattle.certificates.specs.Facts.{Presented}
-use Rattle.certificates.specs.Checks.{furtherReference, references, leafNames, namesReference}
+use Rattle.tlsa.specs.Record.{usageOf, counts}
+use Rattle.certificates.specs.Facts.{Certificate, Presented}
+use Rattle.certificates.specs.Checks.{matchesCertificate, matchesOnPath, leafOf, afterLeaf, recordMatches, furtherReference, references, leafNames, namesReference, oneMatches, danePasses}
 use Rattle.certificates.specs.declared.Origin.{Origin}
 use Rattle.certificates.specs.declared.Origin.the-variants.{SecureMx, InsecureMx, NoMx}
 
@@ -55,3 +57,58 @@ module _ (domain nextHop : List ℕ) where
         go : (t : Bool) → sameText expanded nextHop ≡ t → any named (references SecureMx domain nextHop (some expanded)) ≡ (named domain || (named nextHop || (named expanded || false)))
         go true e = rw (same-adds-nothing e, some-like (leafNames (p .dnsIds) (p .commonName)) expanded nextHop e) (twice (named domain) (named nextHop))
         go false e = rw (third-reference e)
+
+-- a test of either is either's test
+any-either : {A : Type 0} (f g h : A → Bool) → ((x : A) → h x ≡ (f x || g x)) → (xs : List A) → any h xs ≡ (any f xs || any g xs)
+unfolding any
+any-either f g h e [] = refl
+any-either f g h e (x ∷ xs) = rw (e x, any-either f g h e xs) (go (f x) (g x) (any f xs) (any g xs))
+  where
+    go : (a b c d : Bool) → ((a || b) || (c || d)) ≡ ((a || c) || (b || d))
+    go true b c d = refl
+    go false true true d = refl
+    go false true false d = refl
+    go false false c d = refl
+
+match-either : (u w : Bool) (certs : List Certificate) (r : List ℕ) → recordMatches (u || w) certs r ≡ (recordMatches u certs r || recordMatches w certs r)
+unfolding recordMatches
+match-either u w certs r = go (eqb (usageOf r) 3 && any (matchesCertificate r) (leafOf certs)) (eqb (usageOf r) 2) u w (any (matchesOnPath r) (afterLeaf certs))
+  where
+    go : (a b u w c : Bool) → (a || b && (u || w) && c) ≡ ((a || b && u && c) || (a || b && w && c))
+    go true b u w c = refl
+    go false false u w c = refl
+    go false true true true true = refl
+    go false true true true false = refl
+    go false true true false true = refl
+    go false true true false false = refl
+    go false true false w c = refl
+
+named-either : (u w : Bool) (set : List (List ℕ)) (certs : List Certificate) → oneMatches (u || w) set certs ≡ (oneMatches u set certs || oneMatches w set certs)
+named-either u w set certs = any-either (λ (r : List ℕ). counts set r && recordMatches u certs r) (λ (r : List ℕ). counts set r && recordMatches w certs r) (λ (r : List ℕ). counts set r && recordMatches (u || w) certs r) each set
+  where
+    spread : (c a b : Bool) → (c && (a || b)) ≡ (c && a || c && b)
+    spread true a b = refl
+    spread false a b = refl
+
+    each : (r : List ℕ) → (counts set r && recordMatches (u || w) certs r) ≡ (counts set r && recordMatches u certs r || counts set r && recordMatches w certs r)
+    each r = rw (match-either u w certs r) (spread (counts set r) (recordMatches u certs r) (recordMatches w certs r))
+
+-- with secure MX the leaf names one of the three where it names one of the first two, or one of the first and third
+names-either : (domain nextHop expanded : List ℕ) (p : Presented) → namesReference (references SecureMx domain nextHop (some expanded)) p ≡ (namesReference (references SecureMx domain nextHop none) p || namesReference (references SecureMx domain expanded none) p)
+unfolding namesReference any
+names-either domain nextHop expanded p = names-one-of-three domain nextHop expanded p ∙ rw (secure-without domain nextHop, secure-without domain expanded) (go (named domain) (named nextHop) (named expanded))
+  where
+    named : List ℕ → Bool
+    named n = someMatches (leafNames (p .dnsIds) (p .commonName)) n
+
+    go : (d n x : Bool) → (d || (n || (x || false))) ≡ ((d || (n || false)) || (d || (x || false)))
+    go true n x = refl
+    go false true x = refl
+    go false false true = refl
+    go false false false = refl
+
+-- With secure MX, DANE passes exactly where it passes with no expanded next-hop, or does so with the expanded next-hop in the next-hop's place.
+pub dane-by-either : (domain nextHop expanded : List ℕ) (set : List (List ℕ)) (p : Presented) → danePasses (references SecureMx domain nextHop (some expanded)) set p ≡ (danePasses (references SecureMx domain nextHop none) set p || danePasses (references SecureMx domain expanded none) set p)
+unfolding danePasses
+dane-by-either domain nextHop expanded set p =
+    rw (names-either domain nextHop expanded p) (named-either (namesReference (references SecureMx domain nextHop none) p) (namesReference (references SecureMx domain expanded none) p) set (p .certificates))

@@ -1,7 +1,7 @@
 -- The expanded next-hop (document 02, No. 3): with none every answer is what it was before there was one, and given it is a reference and nothing else. Assumes nothing.
 use Prim.Native.Nat.{ℕ, _+_}
 use mathlib.Core.Path.{_≡_, refl, sym, ap, _∙_}
-use mathlib.Core.Bool.{Bool, true, false, cond, not, _&&_, _||_}
+use mathlib.Core.Bool.{Bool, true, false, cond, not, _&&_, _||_, and-true}
 use mathlib.Core.List.{List, [], _∷_}
 use mathlib.Core.Option.{Option, none, some}
 use lib.Dec.{eqb}
@@ -22,9 +22,10 @@ use Rattle.hosts.specs.Tree.{Rules, verdict, ask, final, missing, onGive
 use Rattle.hosts.specs.Rules.{needsMtaSts, isListed, mtaStsPasses, Taken, nothing, set, needsDane, needsAnything, takenPasses, lastVerdict, authenticate, afterHandshake, connect, domainOf, afterAnswer, seek, start, rules}
 use Rattle.hosts.specs.Arguments.{Arguments, originOf, baseOf, presentedIn, factsOf}
 use Rattle.hosts.specs.Call.{codesFit, clocksFit, nextHopsFit, hostNamesFit, policyFits, answersFit, certificatesFit, checks, checked, outcomeAnswer, walked, hostAnswer}
+use Rattle.hosts.proofs.Exactly.{exactly-60}
 
 -- the facts with another base: the walk reads the later facts alone
-abbrev rebased : Base → Facts → Facts
+abbrev pub rebased : Base → Facts → Facts
 rebased b g = record { base = b; tlsa1 = g .tlsa1; tlsa2 = g .tlsa2; offered = g .offered; outcome = g .outcome; presented = g .presented }
 
 module _ (b : Base) (g : Facts) where
@@ -50,7 +51,7 @@ module _ (b : Base) (g : Facts) where
   read-rebased (verdict v) = refl
   read-rebased (ask n q k) = λ i. onGiven (given-rebased q i) 0 (λ a. isTlsa q + read-rebased (k a) i)
 
-  answer-rebased : (t : Rules) → outcomeAnswer g (answersRead t g) (walk t g) ≡ outcomeAnswer (rebased b g) (answersRead t (rebased b g)) (walk t (rebased b g))
+  pub answer-rebased : (t : Rules) → outcomeAnswer g (answersRead t g) (walk t g) ≡ outcomeAnswer (rebased b g) (answersRead t (rebased b g)) (walk t (rebased b g))
   answer-rebased t = rw (read-rebased t, walk-rebased t) (go (answersRead t (rebased b g)) (walk t (rebased b g)))
     where
       go : (n : ℕ) (o : _) → outcomeAnswer g n o ≡ outcomeAnswer (rebased b g) n o
@@ -152,14 +153,10 @@ pub none-as-before : (a : Arguments) (x y : List ℕ) → hostAnswer (withExpand
 unfolding hostAnswer checks codesFit clocksFit nextHopsFit hostNamesFit policyFits answersFit certificatesFit factsOf baseOf presentedIn
 none-as-before a x y = refl
 
--- and 60 stands exactly where it stood: at a next-hop that is no name
-pub none-next-hop : (a : Arguments) (x : List ℕ) → nextHopsFit (withExpanded 2 x a) ≡ isName (a .nextHop)
+-- and 60 is the answer exactly where it was: at a next-hop that is no name
+pub none-next-hop : (a : Arguments) (x : List ℕ) → eqb (hostAnswer (withExpanded 2 x a) .number) 60 ≡ (codesFit (withExpanded 2 x a) && (clocksFit (withExpanded 2 x a) && not (isName (a .nextHop))))
 unfolding nextHopsFit
-none-next-hop a x = go (isName (a .nextHop))
-  where
-    go : (t : Bool) → (t && true) ≡ t
-    go true = refl
-    go false = refl
+none-next-hop a x = exactly-60 (withExpanded 2 x a) ∙ ap (λ (t : Bool). codesFit (withExpanded 2 x a) && (clocksFit (withExpanded 2 x a) && not t)) (and-true (isName (a .nextHop)))
 
 -- A name that is given is a reference and nothing else: where the references are the same without it, so is the answer.
 module _ (a : Arguments) (x : List ℕ) (named : isName x ≡ true) where

@@ -12,6 +12,7 @@ use Rattle.hosts.specs.Call.{hostAnswer}
 use Rattle.hosts.specs.Demands.{fullOf}
 use Rattle.hosts.specs.Verdicts.{testsOf, conditions, holding, countOf}
 use Rattle.hosts.proofs.NextHops.{withExpanded}
+use Rattle.hosts.proofs.ThirdReference.{withNextHop}
 use Rattle.tweedstork.proofs.Cases.{hostComputed}
 
 -- records: 3 1 1 with the digest of the leaf's key info, and with another; 2 1 1 with that of the issuer's; usage 1
@@ -180,6 +181,26 @@ pub each-expanded-next-hop :
     ∷ []
 unfolding hostComputed fullOf testsOf countOf
 each-expanded-next-hop = refl
+
+-- Document 02, No. 3, "Test, from the RFC", of the call: mail to exchange.example.org, an alias of example.com, through mx10.example.com accepts these three names and not the alias between
+pub rfc-example :
+    map (λ (id : List ℕ). hostAnswer (withExpanded 1 (text "example.com") (withNextHop (text "exchange.example.org") (fullWith 1 1 2 (text "mx10.example.com") 1 issuing 3 1 1 1 id))) .number)
+    (text "exchange.example.org" ∷ text "example.com" ∷ text "mx10.example.com" ∷ text "mail.example.org" ∷ [])
+    ≡ 3 ∷ 3 ∷ 3 ∷ 26 ∷ []
+unfolding hostComputed
+rfc-example = refl
+
+-- It is none of the names that MTA-STS looks at (27; 23 where a pattern matches it alone), and a live enforce policy is needed as without it
+pub expanded-next-hop-beside-a-policy :
+    map (λ (a : Arguments). hostAnswer a .number)
+    (withExpanded 1 further (fullWith 1 1 1 mail 3 [] 3 1 1 1 mail)
+    ∷ withExpanded 1 further (fullWith 1 1 1 mail 3 [] 3 1 1 1 further)
+    ∷ withExpanded 1 (text "shop.example.com") (fullWith 1 1 1 stray 3 [] 3 1 1 1 stray)
+    ∷ withExpanded 1 further (fullWith 1 1 1 mail 3 [] 3 2 1 1 mail)
+    ∷ [])
+    ≡ 4 ∷ 27 ∷ 23 ∷ 24 ∷ []
+unfolding hostComputed
+expanded-next-hop-beside-a-policy = refl
 
 -- other codes: 67. No name: 60, with each origin, before 61 (a host that is no name); where it isn't given it is not looked at
 pub refused-expanded-next-hops :
