@@ -11,8 +11,7 @@ use Rattle.hosts.specs.Arguments.{Arguments, baseOf}
 use Rattle.hosts.specs.Call.{hostAnswer}
 use Rattle.hosts.specs.Demands.{fullOf}
 use Rattle.hosts.specs.Verdicts.{testsOf, conditions, holding, countOf}
-use Rattle.hosts.proofs.NextHops.{withExpanded}
-use Rattle.hosts.proofs.ThirdReference.{withNextHop}
+use Rattle.hosts.proofs.NextHops.{withExpanded, withNextHop}
 use Rattle.tweedstork.proofs.Cases.{hostComputed}
 
 -- records: 3 1 1 with the digest of the leaf's key info, and with another; 2 1 1 with that of the issuer's; usage 1
