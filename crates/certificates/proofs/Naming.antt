@@ -1,7 +1,7 @@
 -- The returns of the functions on the leaf's names. Assumes nothing.
 use Prim.Native.Nat.{ℕ}
 use mathlib.Core.Path.{_≡_, refl, sym, _∙_}
-use mathlib.Core.Bool.{Bool, true, false, cond, or-false}
+use mathlib.Core.Bool.{Bool, true, false, or-false}
 use mathlib.Core.List.{List, [], _∷_}
 use mathlib.Core.Option.{Option}
 use native.Mathlib.Omega.{arith}
@@ -9,14 +9,13 @@ use lib.ListN.{length}
 use borrow.Author.Needs.{needs}
 use borrow.Author.Tests.{not-true, not-false}
 use Rattle.lists.specs.Bytes.{any}
-use Rattle.lists.specs.Equal.{sameText}
 use Rattle.numbers.specs.Pieces.{cut}
 use Rattle.names.specs.Name.{someMatches}
-use Rattle.names.proofs.Exactly.{some-like}
 use Rattle.certificates.specs.Facts.{when, commonNameOf}
 use Rattle.certificates.specs.Checks.{furtherReference, references, leafNames}
 use Rattle.certificates.specs.declared.Origin.{Origin}
 use Rattle.certificates.specs.declared.Origin.the-variants.{SecureMx, InsecureMx, NoMx}
+use Rattle.certificates.proofs.References.{matches-further}
 
 -- the names that count, where some DNS-ID is listed and where none is
 some-listed : (s ns : List ℕ) (common : Option (List ℕ)) → (length ns ≡ 0 → ⊥) → leafNames (cut s ns) common ≡ cut s ns
@@ -45,7 +44,7 @@ module _ (p : List ℕ → Bool) (s ns common : List ℕ) (given : Bool) (n : �
 
 pub ruleset leaf-names-laws = (leaf-ids, leaf-nameless, leaf-common, not-true, not-false, needs)
 
--- `names_next_hop`: f and r are what the calls gave, ids are the names that count. Where the expanded next-hop is the next-hop, it is matched as that is
+-- `names_next_hop`: f and r are what the calls gave, ids are the names that count
 module _ (ids : List (List ℕ)) (next expanded : List ℕ) (given f : Bool) (fe : f ≡ someMatches ids next) where
   pub next-hop-named : f ≡ true → true ≡ any (someMatches ids) (next ∷ furtherReference next (when given expanded))
   unfolding any
@@ -57,12 +56,8 @@ module _ (ids : List (List ℕ)) (next expanded : List ℕ) (given f : Bool) (fe
     next-hop-alone h = rw (sym fe ∙ ff, h)
 
     pub next-hop-further : given ≡ true → (r : Bool) → r ≡ someMatches ids expanded → r ≡ any (someMatches ids) (next ∷ furtherReference next (when given expanded))
-    unfolding furtherReference any
-    next-hop-further h r e = rw (sym fe ∙ ff, h) (e ∙ go (sameText expanded next) refl)
-      where
-        go : (t : Bool) → sameText expanded next ≡ t → someMatches ids expanded ≡ any (someMatches ids) (cond t [] (expanded ∷ []))
-        go true s = some-like ids expanded next s ∙ sym fe ∙ ff
-        go false s = sym (or-false (someMatches ids expanded))
+    unfolding any
+    next-hop-further h r e = rw (h, matches-further ids next expanded, sym fe ∙ ff, or-false (someMatches ids expanded)) e
 
 pub ruleset next-hop-laws = (next-hop-named, next-hop-alone, next-hop-further, not-true, not-false, needs)
 

@@ -1,7 +1,7 @@
 -- The references with the expanded next-hop (RFC 7672, 3.2.2; document 02, No. 3): with none they are what they were, where it adds nothing, and what it adds. Assumes nothing.
 use Prim.Native.Nat.{ℕ}
-use mathlib.Core.Path.{_≡_, refl, sym, _∙_}
-use mathlib.Core.Bool.{Bool, true, false, _&&_, _||_}
+use mathlib.Core.Path.{_≡_, refl, ap, _∙_}
+use mathlib.Core.Bool.{Bool, true, false, cond, _&&_, _||_}
 use mathlib.Core.List.{List, [], _∷_}
 use mathlib.Core.Option.{Option, none, some}
 use lib.Dec.{eqb}
@@ -12,11 +12,23 @@ use Rattle.names.proofs.Exactly.{some-like}
 use Rattle.tlsa.specs.Record.{usageOf, counts}
 use Rattle.certificates.specs.Facts.{Certificate, Presented}
 use Rattle.certificates.specs.Checks.{matchesCertificate, matchesOnPath, leafOf, afterLeaf, recordMatches, furtherReference, references, leafNames, namesReference, oneMatches, danePasses}
-use Rattle.certificates.specs.declared.Origin.{Origin}
 use Rattle.certificates.specs.declared.Origin.the-variants.{SecureMx, InsecureMx, NoMx}
 
+-- Whether it differs from the next-hop decides no match: equal names are matched alike.
+pub matches-further : (ids : List (List ℕ)) (nextHop expanded : List ℕ) → any (someMatches ids) (nextHop ∷ furtherReference nextHop (some expanded)) ≡ any (someMatches ids) (nextHop ∷ expanded ∷ [])
+unfolding furtherReference any
+matches-further ids nextHop expanded = go (sameText expanded nextHop) refl
+  where
+    twice : (n : Bool) → (n || false) ≡ (n || (n || false))
+    twice true = refl
+    twice false = refl
+
+    go : (t : Bool) → sameText expanded nextHop ≡ t → (someMatches ids nextHop || any (someMatches ids) (cond t [] (expanded ∷ []))) ≡ (someMatches ids nextHop || (someMatches ids expanded || false))
+    go true e = rw (some-like ids expanded nextHop e) (twice (someMatches ids nextHop))
+    go false e = refl
+
 module _ (domain nextHop : List ℕ) where
-  -- With no expanded next-hop: the TLSA base domain; with secure MX or no MX also the next-hop. This is document 01's rule, word for word.
+  -- With none and secure MX: the TLSA base domain and the next-hop, as document 01 has it.
   pub secure-without : references SecureMx domain nextHop none ≡ domain ∷ nextHop ∷ []
   unfolding references furtherReference
   secure-without = refl
@@ -41,22 +53,10 @@ module _ (domain nextHop : List ℕ) where
     unfolding references furtherReference
     third-reference h = rw h
 
-    -- With secure MX the leaf has to name one of the three. Whether the third differs from the second decides nothing, since equal names are matched alike.
+    -- With secure MX the leaf has to name one of the three.
     pub names-one-of-three : (p : Presented) → namesReference (references SecureMx domain nextHop (some expanded)) p ≡ any (someMatches (leafNames (p .dnsIds) (p .commonName))) (domain ∷ nextHop ∷ expanded ∷ [])
-    unfolding namesReference any
-    names-one-of-three p = go (sameText expanded nextHop) refl
-      where
-        named : List ℕ → Bool
-        named n = someMatches (leafNames (p .dnsIds) (p .commonName)) n
-
-        twice : (d n : Bool) → (d || (n || false)) ≡ (d || (n || (n || false)))
-        twice true n = refl
-        twice false true = refl
-        twice false false = refl
-
-        go : (t : Bool) → sameText expanded nextHop ≡ t → any named (references SecureMx domain nextHop (some expanded)) ≡ (named domain || (named nextHop || (named expanded || false)))
-        go true e = rw (same-adds-nothing e, some-like (leafNames (p .dnsIds) (p .commonName)) expanded nextHop e) (twice (named domain) (named nextHop))
-        go false e = rw (third-reference e)
+    unfolding namesReference references any
+    names-one-of-three p = let ids = leafNames (p .dnsIds) (p .commonName) in ap (λ (r : Bool). someMatches ids domain || r) (matches-further ids nextHop expanded)
 
 -- a test of either is either's test
 any-either : {A : Type 0} (f g h : A → Bool) → ((x : A) → h x ≡ (f x || g x)) → (xs : List A) → any h xs ≡ (any f xs || any g xs)

@@ -98,7 +98,7 @@ module _ (b : Base) (hop x y : List ℕ) (dane : ByEither (b .origin) hop x y) (
   abbrev withOther : Base
   withOther = withHops b y none
 
-  -- the three rules, each of which reads as many TLSA answers
+  -- of three rules: the first come to what the second do, and where that is 26 to what the third do; each reads as many TLSA answers
   record Either (t u w : Rules) : Type 0 where
     pub walks : walk t g ≡ unless26At (walk u g) (walk w g)
     pub reads : answersRead t g ≡ answersRead u g
@@ -316,11 +316,11 @@ module _ (a : Arguments) (x : List ℕ) where
   unfolding hostAnswer checks
   without-is = refl
 
-  -- No name: the answer is the one with none where that is 67 or 62, and else 60, whatever the origin.
   bad-is : isName x ≡ false → hostAnswer (withExpanded 1 x a) ≡ checkedThen false (walked (factsOf (withExpanded 1 x a)))
   unfolding hostAnswer checks codesFit clocksFit nextHopsFit hostNamesFit policyFits answersFit certificatesFit
   bad-is named = rw (named, and-false (isName (a .nextHop)))
 
+  -- No name: the answer is the one with none where that is 67 or 62, and else 60, whatever the origin.
   pub bad-name-exactly : isName x ≡ false → hostAnswer (withExpanded 1 x a) ≡ cond (eqb (hostAnswer (withExpanded 2 [] a) .number) 67 || eqb (hostAnswer (withExpanded 2 [] a) .number) 62) (hostAnswer (withExpanded 2 [] a)) (refused 60)
   bad-name-exactly named = bad-is named ∙ rw (exactly-67 without, exactly-62 without) (go (codesFit without) (clocksFit without) (refused-67 without) (refused-62 without))
     where
