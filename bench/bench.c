@@ -1,9 +1,9 @@
 /*
  * The benchmark: checks that the three implementations answer alike, measures them, and prints what docs/PERFORMANCE.md shows.
  *
- * Usage: bench COUNTS [COUNTS-CLANG]
+ * Usage: bench COUNTS [--clang COUNTS] [--before COUNTS]
  * COUNTS has a line "INPUT IMPLEMENTATION INSTRUCTIONS" for each input and implementation, as bench/run takes them from callgrind's
- * files. COUNTS-CLANG has the same where clang compiled plain.c.
+ * files: those of --clang where clang compiled plain.c, those of --before with an earlier archive in the library's place.
  */
 #include <inttypes.h>
 #include <stdio.h>
@@ -25,8 +25,12 @@ static const struct promise {
     {TABLES, NULL, 1.1, "every row but those below", "the aim is 1.0"},
     {CACHE, NULL, 1.5, "policy cache",
      "domains and ids are filled up with zeros, which plain C reads with the C library's `memchr` and `memcmp`, chosen by the processor; the archive calls neither"},
-    {DNS_IDS, NULL, 1.5, "DNS-IDs", "until names are compared by their lengths first and then by byte pairs from the right, which is planned"},
-    {CALLS, aliased_next_hop, 1.5, "the leaf names the third reference", "as DNS-IDs: plain C sees by its length alone that the leaf's name is neither of the first two"},
+    {CACHE, lookup_of_none, 1.6, "the lookup that finds none of 64 entries",
+     "for an entry with a longer domain plain C tests one byte and goes on, 8 instructions; the library's pass also tests which entries it looks for and whether its search is over, 13"},
+    {DNS_IDS, NULL, 1.3, "DNS-IDs as long as the host's name",
+     "that the host is a name is tested once more where a DNS-ID equals it, and its first label where a pattern does: each crate promises its answer for every text"},
+    {OTHER_DNS_IDS, NULL, 1.3, "DNS-IDs of another length", "the library clips each name at the end of the bytes, though the lengths were checked before: a promise for every input again"},
+    {DECISIONS, mta_sts_decision, 1.3, "the decision by MTA-STS", "as with DNS-IDs: four calls hold a pattern against the host, one a DNS-ID"},
     {HOSTS, NULL, 1.5, "hosts of a message",
      "the form of that walk is fixed, arrays of 32 by value with a count: the library reads the lists into arrays and walks those, plain C walks the lists themselves"},
     {DECISIONS, whole_certificate_decision, 1.5, "the decision with a whole certificate (record 3 0 0 of 1.5 KB)",
@@ -40,8 +44,8 @@ static const double round_trips = 4, round_trip_seconds = 0.001;
 struct results {
     const struct inputs *inputs;
     uint64_t instructions[MAX_INPUTS][IMPLEMENTATIONS];
-    uint64_t clang[MAX_INPUTS][IMPLEMENTATIONS];
-    int has_clang;
+    uint64_t clang[MAX_INPUTS][IMPLEMENTATIONS], before[MAX_INPUTS][IMPLEMENTATIONS];
+    int has_clang, has_before;
     struct times times[MAX_INPUTS];
     size_t stack[MAX_INPUTS];
 };
@@ -57,7 +61,8 @@ static const struct {
     [CERTIFICATES] = {"### Certificates of 1.5 KB, a record 2 1 1 that matches none", "Certificates"},
     [POLICY_BYTES] = {"### Bytes of a policy, mx lines", "Bytes of a policy"},
     [TXT_BYTES] = {"### Bytes of a TXT record, fields of 32 bytes", "Bytes of a TXT record"},
-    [DNS_IDS] = {"### DNS-IDs, a host with a policy of 63 bytes; the last is the host", "DNS-IDs"},
+    [DNS_IDS] = {"### DNS-IDs as long as the host's name and with the same end, a host with a policy of 63 bytes; the last is the host", "DNS-IDs"},
+    [OTHER_DNS_IDS] = {"### DNS-IDs of another length than the two references, a record 2 1 1 that matches; none is a reference", "DNS-IDs of another length"},
     [HOSTS] = {"### Hosts of a message; the one that decides is the last to be looked at", "Hosts"},
 };
 
@@ -305,6 +310,27 @@ static void print_clang(const struct results *r)
         }
 }
 
+/* The rows whose instructions are not those of the earlier archive. */
+static void print_before(const struct results *r)
+{
+    printf("\n## Before and after\n\n| Input | instructions: before | after | after / before | C | before / C | after / C |\n|---|--:|--:|--:|--:|--:|--:|\n");
+    for (size_t i = 0; i < r->inputs->count; i++) {
+        const struct input *input = &r->inputs->at[i];
+        double before = (double)r->before[i][LIBRARY], after = (double)r->instructions[i][LIBRARY], c = (double)r->instructions[i][PLAIN_C];
+        if (before == after)
+            continue;
+        if (is_series(input->table))
+            printf("| %s: %s |", tables[input->table].column, input->name);
+        else
+            printf("| %s |", input->name);
+        print_cell(before);
+        print_cell(after);
+        printf(" %.2f |", after / before);
+        print_cell(c);
+        printf(" %.2f | %.2f |\n", before / c, after / c);
+    }
+}
+
 static void print_results(const struct results *r)
 {
     print_summary(r);
@@ -319,6 +345,8 @@ static void print_results(const struct results *r)
     print_stack(r);
     if (r->has_clang)
         print_clang(r);
+    if (r->has_before)
+        print_before(r);
 }
 
 /* ---- the promises ---- */
@@ -347,24 +375,36 @@ static int keeps_promises(const struct results *r)
     return broken == 0;
 }
 
+static int usage(void)
+{
+    fprintf(stderr, "usage: bench COUNTS [--clang COUNTS] [--before COUNTS] (bench/run makes all of them)\n");
+    return 2;
+}
+
 int main(int argc, char **argv)
 {
     static struct results results;
     struct inputs *inputs[THREADS];
 
-    if (argc != 2 && argc != 3) {
-        fprintf(stderr, "usage: bench COUNTS [COUNTS-CLANG] (bench/run makes both)\n");
-        return 2;
-    }
+    if (argc < 2 || argc % 2 != 0)
+        return usage();
     for (size_t i = 0; i < THREADS; i++)
         inputs[i] = build_inputs();
     if (!check_answers(inputs[0]))
         return 1;
     results.inputs = inputs[0];
     read_counts(argv[1], inputs[0], results.instructions);
-    results.has_clang = argc == 3;
-    if (results.has_clang)
-        read_counts(argv[2], inputs[0], results.clang);
+    for (int k = 2; k < argc; k += 2) {
+        if (strcmp(argv[k], "--clang") == 0) {
+            read_counts(argv[k + 1], inputs[0], results.clang);
+            results.has_clang = 1;
+        } else if (strcmp(argv[k], "--before") == 0) {
+            read_counts(argv[k + 1], inputs[0], results.before);
+            results.has_before = 1;
+        } else {
+            return usage();
+        }
+    }
     measure(&results, inputs);
     print_results(&results);
     return keeps_promises(&results) ? 0 : 3;

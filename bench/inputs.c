@@ -127,17 +127,26 @@ static void put_mx_line(struct bytes line, size_t number)
     memcpy(line.at + line.length - (sizeof end - 1), end, sizeof end - 1);
 }
 
-static void make_mx_policy(struct input *input, size_t size)
+/* A policy of mx lines, and how many they are. */
+static size_t put_mx_policy(struct bytes body)
 {
     size_t done = POLICY_HEAD, lines = 0;
 
-    input->first = room(size);
-    memcpy(input->first.at, policy_head, POLICY_HEAD);
-    while (done < size) {
-        size_t left = size - done, length = left < 2 * MX_LINE ? left : MX_LINE;
-        put_mx_line(part(input->first, done, length), lines++);
+    memcpy(body.at, policy_head, POLICY_HEAD);
+    while (done < body.length) {
+        size_t left = body.length - done, length = left < 2 * MX_LINE ? left : MX_LINE;
+        put_mx_line(part(body, done, length), lines++);
         done += length;
     }
+    return lines;
+}
+
+static void make_mx_policy(struct input *input, size_t size)
+{
+    size_t lines;
+
+    input->first = room(size);
+    lines = put_mx_policy(input->first);
     expect(input, 0, TWEEDSTORK_POLICY_ACCEPTED, TWEEDSTORK_ENFORCE, MAX_AGE, lines);
 }
 
@@ -324,6 +333,8 @@ static void add_store(
     expect(input, 0, TWEEDSTORK_DONE, 0, 0, 0);
 }
 
+const char lookup_of_none[] = "lookup, none of 64 entries";
+
 static void add_cache_calls(struct inputs *inputs, const char *mark, const struct bytes domains[ENTRIES], struct bytes absent)
 {
     enum { LAST = ENTRIES - 1 };
@@ -332,7 +343,7 @@ static void add_cache_calls(struct inputs *inputs, const char *mark, const struc
     last_stale->table[LAST].fetched = cache_clock - MAX_AGE;
     add_lookup(inputs, "lookup, the first of 64 entries", mark, full, domains[0], 0);
     add_lookup(inputs, "lookup, the last of 64 entries", mark, full, domains[LAST], LAST);
-    add_lookup(inputs, "lookup, none of 64 entries", mark, full, absent, NOWHERE);
+    add_lookup(inputs, lookup_of_none, mark, full, absent, NOWHERE);
     add_store(inputs, "store, own entry is the first of 64", mark, full, domains[0], 0);
     add_store(inputs, "store, own entry is the last of 64", mark, full, domains[LAST], LAST);
     add_store(inputs, "store, empty table", mark, take(sizeof *full), absent, 0);
@@ -498,6 +509,20 @@ static void give_policy(struct facts *f)
     f->fetched = f->clock - 1000;
 }
 
+/* A policy of mx lines that ends in one for the host, which is the leaf's only name. */
+static void give_mx_policy(struct facts *f, size_t size, const char *host)
+{
+    char last[64];
+    size_t length = (size_t)snprintf(last, sizeof last, "mx: %s\n", host);
+
+    give_policy(f);
+    f->host = f->dns_ids = text(host);
+    f->dns_id_lengths = list_of(1, f->host.length);
+    f->policy = room(size);
+    put_mx_policy(part(f->policy, 0, size - length));
+    memcpy(f->policy.at + size - length, last, length);
+}
+
 /* The next-hop is an alias, and the leaf names what it is an alias of: RFC 7672, 3.2.2. */
 static void give_alias(struct facts *f)
 {
@@ -528,8 +553,6 @@ static struct facts *add_host(struct inputs *inputs, enum table table, const cha
     return &input->facts[0];
 }
 
-const char aliased_next_hop[] = "host, 1 TLSA record 2 1 1, 8 certificates, named by the expanded next-hop";
-
 static void add_single_hosts(struct inputs *inputs)
 {
     struct facts *f = add_host(inputs, CALLS, "host, 1 TLSA record 3 1 1, 8 certificates", 8, TWEEDSTORK_DANE, 1);
@@ -542,7 +565,7 @@ static void add_single_hosts(struct inputs *inputs)
     f = add_host(inputs, CALLS, "host, 1 TLSA record 2 1 1, 8 certificates", 8, TWEEDSTORK_DANE, 1);
     give_records(f, 1, 2);
     match(f, 0, 7);
-    f = add_host(inputs, CALLS, aliased_next_hop, 8, TWEEDSTORK_DANE, 1);
+    f = add_host(inputs, CALLS, "host, 1 TLSA record 2 1 1, 8 certificates, named by the expanded next-hop", 8, TWEEDSTORK_DANE, 1);
     give_records(f, 1, 2);
     match(f, 0, 7);
     give_alias(f);
@@ -553,6 +576,10 @@ static void add_single_hosts(struct inputs *inputs)
     give_records(f, 32, 2);
     match(f, 31, 7);
     give_policy(f);
+    f = add_host(inputs, CALLS, "host, policy of 64 KiB, mx lines as long as the host's name, the last is the host", 3, TWEEDSTORK_MTA_STS, 0);
+    give_mx_policy(f, 65536, "mailbox.example.com");
+    f = add_host(inputs, CALLS, "host, policy of 64 KiB, mx lines of another length, the last is the host", 3, TWEEDSTORK_MTA_STS, 0);
+    give_mx_policy(f, 65536, "mail.example.com");
 }
 
 /* ---- whole decisions ---- */
@@ -581,6 +608,7 @@ static void make_decision(struct input *input, struct facts f, uint64_t verdict)
     expect(input, step, TWEEDSTORK_ASK_TLSA_HOST, 0, 0, 0);
 }
 
+const char mta_sts_decision[] = "MTA-STS: 4 calls, policy of 63 bytes, 3 certificates";
 const char whole_certificate_decision[] = "DANE: 5 calls, 1 record 3 0 0 (1.5 KB), 3 certificates";
 
 static void add_decisions(struct inputs *inputs)
@@ -592,7 +620,7 @@ static void add_decisions(struct inputs *inputs)
     make_decision(add(inputs, DECISIONS, JUDGE_HOST, "DANE: 5 calls, 2 records 3 1 1, 3 certificates"), f, TWEEDSTORK_DANE);
     f = facts_with(3);
     give_policy(&f);
-    make_decision(add(inputs, DECISIONS, JUDGE_HOST, "MTA-STS: 4 calls, policy of 63 bytes, 3 certificates"), f, TWEEDSTORK_MTA_STS);
+    make_decision(add(inputs, DECISIONS, JUDGE_HOST, mta_sts_decision), f, TWEEDSTORK_MTA_STS);
     f = facts_with(3);
     give_whole_leaf(&f);
     make_decision(add(inputs, DECISIONS, JUDGE_HOST, whole_certificate_decision), f, TWEEDSTORK_DANE);
@@ -628,22 +656,39 @@ static void add_certificate_series(struct inputs *inputs)
     }
 }
 
-/* Names of the host's length; the last is the host. */
+/* The leaf's names: "mxNN" with this end. */
+static void give_dns_ids(struct facts *f, size_t count, const char *end)
+{
+    size_t length = strlen("mxNN") + strlen(end);
+    char name[32];
+
+    f->dns_ids = room(count * length);
+    f->dns_id_lengths = list_of(count, length);
+    for (size_t i = 0; i < count; i++) {
+        snprintf(name, sizeof name, "mx%02zu%s", i, end);
+        memcpy(f->dns_ids.at + i * length, name, length);
+    }
+}
+
 static void add_dns_id_series(struct inputs *inputs)
 {
     for (size_t count = 1; count <= 64; count *= 2) {
         struct input *input = add_counted(inputs, DNS_IDS, JUDGE_HOST, count);
         struct facts *f = &input->facts[0];
-        char name[32];
         *f = facts_with(3);
         give_policy(f);
-        f->dns_ids = room(count * f->host.length);
-        f->dns_id_lengths = list_of(count, f->host.length);
-        for (size_t i = 0; i < count; i++) {
-            snprintf(name, sizeof name, i + 1 == count ? "mail.example.com" : "mx%02zu.example.com", i);
-            memcpy(f->dns_ids.at + i * f->host.length, name, f->host.length);
-        }
+        give_dns_ids(f, count, ".example.com");
+        memcpy(f->dns_ids.at + (count - 1) * f->host.length, f->host.at, f->host.length);
         expect(input, 0, TWEEDSTORK_MTA_STS, 0, 0, 0);
+    }
+    for (size_t count = 1; count <= 64; count *= 2) {
+        struct input *input = add_counted(inputs, OTHER_DNS_IDS, JUDGE_HOST, count);
+        struct facts *f = &input->facts[0];
+        *f = facts_with(3);
+        give_records(f, 1, 2);
+        match(f, 0, 1);
+        give_dns_ids(f, count, "-backup.example.com");
+        expect(input, 0, TWEEDSTORK_DANE_MISMATCH, 1, 0, 0);
     }
 }
 

@@ -58,14 +58,14 @@ struct answer {
 enum call { READ_TXT, READ_POLICY, CACHE_STORE, CACHE_LOOKUP, JUDGE_HOST, NEXT_HOST };
 
 /* The tables that the results are shown in. From LAST_RECORD_MATCHES on each is a series that shows growth. */
-enum table { CALLS, CACHE, DECISIONS, LAST_RECORD_MATCHES, NO_RECORD_MATCHES, CERTIFICATES, POLICY_BYTES, TXT_BYTES, DNS_IDS, HOSTS, TABLES };
+enum table { CALLS, CACHE, DECISIONS, LAST_RECORD_MATCHES, NO_RECORD_MATCHES, CERTIFICATES, POLICY_BYTES, TXT_BYTES, DNS_IDS, OTHER_DNS_IDS, HOSTS, TABLES };
 
 enum { MAX_STEPS = 5, MAX_INPUTS = 96 };
 
 /* One call, or the calls of a decision on a host, with what must be answered. */
 struct input {
     enum table table;
-    char name[80];
+    char name[96];
     enum call call;
     struct bytes first, second; /* rdatas and lengths; body; preferences and verdicts */
     struct bytes output, text;  /* of read_txt: lent memory, of cache_lookup: where its whole answer goes; and what must stand there afterwards */
@@ -83,8 +83,8 @@ struct inputs {
 /* New inputs, in memory that no other inputs share. */
 struct inputs *build_inputs(void);
 
-/* The names of two inputs with a promise of their own: a leaf that names the third reference; a record that is a whole certificate. */
-extern const char aliased_next_hop[], whole_certificate_decision[];
+/* The names of inputs with a promise of their own. */
+extern const char lookup_of_none[], mta_sts_decision[], whole_certificate_decision[];
 
 /* The first input of a table. */
 const struct input *first_input(const struct inputs *inputs, enum table table);

@@ -106,11 +106,12 @@ static int is_pattern(struct slice s)
     return is_name(s);
 }
 
+/* Lengths first, then byte pairs from the right: the library's order. */
 static int is_same_name(struct slice a, struct slice b)
 {
     if (a.length != b.length)
         return 0;
-    for (size_t i = 0; i < a.length; i++)
+    for (size_t i = a.length; i-- > 0;)
         if (a.at[i] != b.at[i] && lower[a.at[i]] != lower[b.at[i]])
             return 0;
     return 1;
@@ -485,9 +486,11 @@ static struct slice content(const uint8_t *field, size_t room)
     return (struct slice){field, is_filled_up(field, room, length) ? length : 0};
 }
 
-/* Does an entry's domain equal a name? */
+/* Does an entry's domain equal a name? A longer domain is told by the byte behind the name's length. */
 static int is_domain(const uint8_t *field, struct slice name)
 {
+    if (name.length < DOMAIN_ROOM && field[name.length] != 0)
+        return 0;
     return is_same_name((struct slice){field, name.length}, name) && is_filled_up(field, DOMAIN_ROOM, name.length);
 }
 

@@ -54,8 +54,8 @@ extern "C" {
 #endif
 
 /* The version of this header. A number that another version gave a meaning to is never given a second one. */
-#define TWEEDSTORK_VERSION "1.3.0"
-#define TWEEDSTORK_VERSION_NUMBER 10300 /* major * 10000 + minor * 100 + patch */
+#define TWEEDSTORK_VERSION "1.4.0"
+#define TWEEDSTORK_VERSION_NUMBER 10400 /* major * 10000 + minor * 100 + patch */
 
 /* The version of the archive. It equals TWEEDSTORK_VERSION_NUMBER where header and archive belong together. */
 uint64_t tweedstork_version(void);

@@ -1,25 +1,25 @@
 -- The ways out of the functions on one entry, each from what the code knows there. Assumes nothing.
-use Prim.Native.Nat.{ℕ, zero, suc, _+_, _-_, _*_, _/_, _<_, _≤_}
+use Prim.Native.Nat.{ℕ, _+_, _-_, _*_, _/_, _<_, _≤_}
 use mathlib.Core.Path.{_≡_, refl, sym, ap, _∙_}
-use mathlib.Core.Bool.{Bool, true, false, cond, not}
+use mathlib.Core.Bool.{Bool, true, false}
 use mathlib.Core.List.{List, [], _∷_, _++_}
 use mathlib.Core.Option.{none, some}
 use native.Mathlib.Omega.{arith}
-use lib.Dec.{eqb, leb, ltb}
-use lib.ListN.{length, getD, take, drop, length-drop, drop-of-length-le}
-use lib.Seq.{take-add, take-all, take-nil}
+use lib.Dec.{eqb}
+use lib.ListN.{length, getD, take, drop, drop-of-length-le}
+use lib.Seq.{take-add, take-nil}
 use borrow.Author.Needs.{needs}
-use borrow.Author.Tests.{not-true, not-false, le-leb, lt-leb, lt-ltb, le-ltb, eq-eqb, ne-eqb}
-use Rattle.lists.specs.Bytes.{within, all, lowerOf}
-use Rattle.lists.specs.Equal.{agree, sameLetter, sameBytes, sameText}
+use borrow.Author.Tests.{not-true, not-false, le-leb, lt-leb, lt-ltb, le-ltb, eq-eqb, ne-eqb, eqb-true, eqb-false}
+use Rattle.lists.specs.Bytes.{all}
+use Rattle.lists.specs.Equal.{sameLetter, sameBytes, sameText}
 use Rattle.lists.specs.Span.{trimmedLength}
 use Rattle.lists.specs.Check.{refusalOf}
 use Rattle.lists.specs.Words.{numberOf, firstEight}
 use Rattle.lists.specs.Write.{wroteFront}
-use Rattle.lists.proofs.Bools.{and-intro}
+use Rattle.lists.proofs.Bools.{and-intro, and-left}
 use Rattle.lists.proofs.Agree.{agree-length, same-bytes}
-use Rattle.lists.proofs.Laws.{drop-take, take-rest}
-use Rattle.lists.proofs.Trim.{trim-start, trim-next, trim-stop, trim-end, trim-append, trim-le, trim-length}
+use Rattle.lists.proofs.Laws.{drop-next}
+use Rattle.lists.proofs.Trim.{trim-start, trim-next, trim-stop, trim-end, trim-append, trim-le, trim-length, trim-rest, trim-last}
 use Rattle.lists.proofs.Words.{eight-part}
 use Rattle.names.specs.Name.{isName}
 use Rattle.clock.specs.Clock.{isReading, isLive}
@@ -37,7 +37,7 @@ use Rattle.cache.specs.declared.CacheAnswer.{CacheAnswer}
 use Rattle.cache.specs.Held.{textPlace, isZero, unfilled, zeros, filled, isPolicy, textAt, fieldsFit, isAccepted, written, heldIn, noEntry}
 use Rattle.cache.specs.Store.{isLiveAt, sizesFit, argumentChecks, entryFor}
 use Rattle.cache.specs.Lookup.{onlyNumber, refusedOr, lookupRefusal}
-use Rattle.cache.specs.Scan.{stateOf, rankIn, foundOf, beginning, firstLetter, sameAfterFirst, sameRest, isSought, better, startAt, nextAt, beyond, refusalFor, refusedPlan, planBy, planOf, foundText, answerBy, answerFrom}
+use Rattle.cache.specs.Scan.{stateOf, rankIn, foundOf, beginning, isSought, better, startAt, nextAt, beyond, refusalFor, refusedPlan, planBy, planOf, foundText, answerBy, answerFrom}
 
 -- ---- `zeros_by_eight`: a number of eight bytes that is zero has only zeros
 number-zeros : (s : List ℕ) → numberOf s ≡ 0 → all isZero s ≡ true
@@ -95,58 +95,50 @@ module _ (s u : List ℕ) (e : u ≡ unfilled s) where
 
 pub ruleset field-laws = (unfilled-is, field-name, field-id, needs)
 
--- ---- `first_letter`
-module _ (s : List ℕ) where
-  pub letter-none : length s ≡ 0 → 0 ≡ firstLetter s
-  unfolding firstLetter lowerOf
-  letter-none e = go s e
-    where
-      go : (u : List ℕ) → length u ≡ 0 → 0 ≡ cond (within 65 90 (getD u 0 0)) (getD u 0 0 + 32) (getD u 0 0)
-      go [] h = refl
-      go (b ∷ u) h = absurd (omega arith)
-
-  pub letter-is : (r : ℕ) → r ≡ lowerOf (getD s 0 0) → r ≡ firstLetter s
-  unfolding firstLetter
-  letter-is r g = g
-
-pub ruleset letter-laws = (letter-none, letter-is, needs)
-
-take-most : (n : ℕ) (l : List ℕ) → length (take n l) ≤ n
-take-most zero l = omega arith
-take-most (suc n) [] = omega arith
-take-most (suc n) (b ∷ l) = omega (arith, take-most n l)
-
--- ---- `is_same_after_first`, `is_rest_of`: r is what the first gave
+-- ---- `holds_domain`: t is the field's front, r what `compare` says of it, k what `unfilled_length` gave
 module _ (s d : List ℕ) where
-  pub after-none : length d < 2 → true ≡ sameAfterFirst s d
-  unfolding sameAfterFirst agree
-  after-none l =
-      let short : length (take (length d) s) ≤ 1 = omega (arith, l, take-most (length d) s) in
-      let one : length d ≤ 1 = omega arith in
-      let a : drop 1 (take (length d) s) ≡ [] = drop-of-length-le (take (length d) s) short in
-      let b : drop 1 d ≡ [] = drop-of-length-le d one in
-      rw (a, b)
+  not-as-long : (trimmedLength isZero s ≡ length d → ⊥) → false ≡ sameText (unfilled s) d
+  not-as-long n = agree-length sameLetter (unfilled s) d (λ e. n (sym (trim-length isZero s) ∙ e))
 
-  pub after-short : 2 ≤ length d → length s < length d → false ≡ sameAfterFirst s d
-  unfolding sameAfterFirst
-  after-short l h =
-      let all-of : s ≡ take (length d) s = sym (take-all (length d) s (omega arith)) in
-      rw all-of at (agree-length sameLetter (drop 1 s) (drop 1 d) (λ e. omega (arith, l, h, e, length-drop 1 s, length-drop 1 d)))
+  pub holds-longer : length d < length s → (getD s (length d) 0 ≡ 0 → ⊥) → false ≡ sameText (unfilled s) d
+  unfolding all isZero
+  holds-longer h n = not-as-long (λ e. n (zero-there e))
+    where
+      zero-there : trimmedLength isZero s ≡ length d → getD s (length d) 0 ≡ 0
+      zero-there e =
+          let z : all isZero (drop (length d) s) ≡ true = rw e at (trim-rest isZero s) in
+          let y : all isZero (getD s (length d) 0 ∷ drop (length d + 1) s) ≡ true = rw (drop-next s (length d) h) at z in
+          eqb-true (getD s (length d) 0) 0 (and-left (eqb (getD s (length d) 0) 0) (all isZero (drop (length d + 1) s)) y)
 
-  pub after-is : 2 ≤ length d → length d ≤ length s → (r : Bool) → r ≡ sameText (take (length d - 1) (drop 1 s)) (take (length d - 1) (drop 1 d)) → r ≡ sameAfterFirst s d
-  unfolding sameAfterFirst
-  after-is l m r g = g ∙ rw (drop-take 1 (length d) s, take-rest d 1)
+  pub holds-shorter : 0 < length d → getD s (length d - 1) 0 ≡ 0 → false ≡ sameText (unfilled s) d
+  unfolding isZero
+  holds-shorter h z = not-as-long other
+    where
+      other : trimmedLength isZero s ≡ length d → ⊥
+      other e =
+          let l : eqb (getD s (trimmedLength isZero s - 1) 0) 0 ≡ false = trim-last isZero s (omega (arith, e, h)) in
+          let k : eqb (getD s (length d - 1) 0) 0 ≡ false = rw e at l in
+          eqb-false (getD s (length d - 1) 0) 0 k z
 
-  module _ (r : Bool) (g : r ≡ sameAfterFirst s d) where
-    pub rest-other : r ≡ false → false ≡ sameRest s d
-    unfolding sameRest
-    rest-other h = rw (sym g, h)
+  module _ (t : List ℕ) (front : t ≡ take (length d) (drop 0 s)) (r : Bool) (g : r ≡ sameText t d) where
+    as-long : trimmedLength isZero s ≡ length d → r ≡ sameText (unfilled s) d
+    as-long e = g ∙ (ap (λ (u : List ℕ). sameText u d) front ∙ ap (λ (k : ℕ). sameText (take k s) d) (sym e))
 
-    pub rest-same : r ≡ true → (k : ℕ) → k ≡ trimmedLength isZero s → eqb k (length d) ≡ sameRest s d
-    unfolding sameRest
-    rest-same h k q = rw (q, sym g, h)
+    pub holds-other : r ≡ false → false ≡ sameText (unfilled s) d
+    holds-other f = go (eqb (trimmedLength isZero s) (length d)) refl
+      where
+        go : (b : Bool) → eqb (trimmedLength isZero s) (length d) ≡ b → false ≡ sameText (unfilled s) d
+        go true e = sym f ∙ as-long (eqb-true (trimmedLength isZero s) (length d) e)
+        go false e = not-as-long (eqb-false (trimmedLength isZero s) (length d) e)
 
-pub ruleset rest-laws = (after-none, after-short, after-is, rest-other, rest-same, not-true, not-false, needs)
+    pub holds-same : r ≡ true → (k : ℕ) → k ≡ trimmedLength isZero s → eqb k (length d) ≡ sameText (unfilled s) d
+    holds-same y k q = go (eqb k (length d)) refl
+      where
+        go : (b : Bool) → eqb k (length d) ≡ b → b ≡ sameText (unfilled s) d
+        go true e = sym y ∙ as-long (sym q ∙ eqb-true k (length d) e)
+        go false e = not-as-long (λ z. eqb-false k (length d) e (q ∙ z))
+
+pub ruleset holds-laws = (holds-longer, holds-shorter, holds-other, holds-same, not-true, not-false, needs)
 
 -- ---- `fields_fit`
 module _ (e : CacheEntry) where
@@ -229,26 +221,21 @@ module _ (own : Bool) (state : State) (r : ℕ) where
 pub ruleset rank-laws = (rank-own, rank-other, not-true, not-false, needs)
 
 -- ---- `is_sought`, `better_at`, `next_at`
-module _ (own : Bool) (rank first : ℕ) (field d : List ℕ) where
-  pub sought-done : rank ≤ 2 → false ≡ isSought own rank first field d
+module _ (own : Bool) (rank : ℕ) (field d : List ℕ) where
+  pub sought-done : rank ≤ 2 → false ≡ isSought own rank field d
   unfolding isSought
   sought-done h = rw (le-ltb 2 rank h)
 
   module _ (h : 2 < rank) where
-    pub sought-any : own ≡ false → true ≡ isSought own rank first field d
+    pub sought-any : own ≡ false → true ≡ isSought own rank field d
     unfolding isSought
     sought-any o = rw (lt-ltb 2 rank h, o)
 
-    module _ (o : own ≡ true) (letter : ℕ) (l : letter ≡ firstLetter field) where
-      pub sought-letter : (letter ≡ first → ⊥) → false ≡ isSought own rank first field d
-      unfolding isSought
-      sought-letter n = rw (lt-ltb 2 rank h, o, sym l, ne-eqb letter first n)
+    pub sought-own : own ≡ true → (r : Bool) → r ≡ sameText (unfilled field) d → r ≡ isSought own rank field d
+    unfolding isSought
+    sought-own o r g = rw (lt-ltb 2 rank h, o) g
 
-      pub sought-own : letter ≡ first → (r : Bool) → r ≡ sameRest field d → r ≡ isSought own rank first field d
-      unfolding isSought
-      sought-own e r g = rw (lt-ltb 2 rank h, o, sym l, eq-eqb letter first e) g
-
-pub ruleset sought-laws = (sought-done, sought-any, sought-letter, sought-own, not-true, not-false, needs)
+pub ruleset sought-laws = (sought-done, sought-any, sought-own, not-true, not-false, needs)
 
 module _ (own : Bool) (clock : ℕ) (x : List ℕ) (s : Found) (e : CacheEntry) (i : ℕ) (text : List ℕ) (t : text ≡ take (e .length) (drop (textPlace i) x)) (state : State) (g : state ≡ stateOf clock (heldIn e text)) (rank : ℕ) (k : rank ≡ rankIn own state) where
   rank-is : rank ≡ rankIn own (stateOf clock (heldIn e (textAt x i e)))

@@ -10,16 +10,16 @@ use borrow.Author.Tests.{le-ltb, lt-ltb, ltb-false}
 use Rattle.cache.specs.declared.CacheEntry.{CacheEntry}
 use Rattle.cache.specs.declared.Found.{Found}
 use Rattle.cache.specs.Held.{noEntry}
-use Rattle.cache.specs.Scan.{firstLetter, isSought, better, step, foundFrom, startAt, nextAt}
+use Rattle.cache.specs.Scan.{isSought, better, step, foundFrom, startAt, nextAt}
 use Rattle.cache.proofs.Walk.{entry-next}
 
 module _ (own : Bool) (clock : ℕ) (d x : List ℕ) where
   -- an entry that is not sought changes nothing, and one that is sought may be better
-  pub step-kept : (s : Found) (e : CacheEntry) (i : ℕ) → isSought own (s .rank) (firstLetter d) (e .domain) d ≡ false → s ≡ step own clock d x s e i
+  pub step-kept : (s : Found) (e : CacheEntry) (i : ℕ) → isSought own (s .rank) (e .domain) d ≡ false → s ≡ step own clock d x s e i
   unfolding step
   step-kept s e i h = rw h
 
-  pub step-taken : (s : Found) (e : CacheEntry) (i : ℕ) → isSought own (s .rank) (firstLetter d) (e .domain) d ≡ true → better own clock x s e i ≡ step own clock d x s e i
+  pub step-taken : (s : Found) (e : CacheEntry) (i : ℕ) → isSought own (s .rank) (e .domain) d ≡ true → better own clock x s e i ≡ step own clock d x s e i
   unfolding step
   step-taken s e i h = rw h
 

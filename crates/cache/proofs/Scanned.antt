@@ -5,33 +5,29 @@ use mathlib.Core.Bool.{Bool, true, false, cond, not, _&&_, _||_, and-true, and-f
 use mathlib.Core.List.{List, [], _∷_, _++_}
 use mathlib.Core.Option.{Option, none, some}
 use native.Mathlib.Omega.{arith}
-use lib.Dec.{eqb, leb, ltb}
-use lib.ListN.{length, getD, set, take, List·getD-eq-default}
+use lib.Dec.{leb, ltb}
+use lib.ListN.{length, getD, set, List·getD-eq-default}
 use lib.Seq.{set-out}
-use borrow.Author.Tests.{eqb-true, eqb-false, le-ltb, lt-ltb, leb-true, leb-false, ltb-true, ltb-false, not-true}
-use Rattle.lists.specs.Bytes.{all, lowerOf}
-use Rattle.lists.specs.Equal.{agree, sameLetter, sameText}
-use Rattle.lists.specs.Span.{trimmedLength}
+use borrow.Author.Tests.{le-ltb, lt-ltb, leb-true, leb-false, ltb-true, ltb-false, not-true}
+use Rattle.lists.specs.Bytes.{all}
+use Rattle.lists.specs.Equal.{sameText}
 use Rattle.lists.specs.Place.{firstPlace}
 use Rattle.lists.specs.Check.{refusalOf}
 use Rattle.lists.proofs.Bools.{apart, and-left, and-right}
 use Rattle.lists.proofs.All.{all-more}
-use Rattle.lists.proofs.Agree.{agree-length}
-use Rattle.lists.proofs.Trim.{trim-le, trim-length, trim-none}
 use Rattle.lists.proofs.Place.{first-passes, first-like, first-agree, first-none}
 use Rattle.lists.proofs.Check.{checks-first, checks-last}
 use Rattle.writing.specs.declared.WriteAnswer.{WriteAnswer}
 use Rattle.writing.specs.Answer.{answerUnless}
 use Rattle.writing.specs.Over.{over}
 use Rattle.cache.specs.declared.CacheEntry.{CacheEntry}
-use Rattle.cache.specs.declared.State.{State}
 use Rattle.cache.specs.declared.State.the-variants as S
 use Rattle.cache.specs.declared.Found.{Found}
 use Rattle.cache.specs.declared.Plan.{Plan}
-use Rattle.cache.specs.Held.{Held, textPlace, isZero, unfilled, textAt, isAccepted, written, heldIn, heldFrom, contents, noEntry}
+use Rattle.cache.specs.Held.{Held, textPlace, unfilled, textAt, isAccepted, written, heldIn, heldFrom, contents, noEntry}
 use Rattle.cache.specs.Store.{isLiveAt, isOwn, isEmpty, isStale, elsePlace, ownPlace, storePlace, sizesFit, argumentChecks, storeChecks, storeRefusal, unlessRefused, entryFor, storeAnswer, tableAfter, textsAfter, clockAndName}
 use Rattle.cache.specs.Lookup.{ifLive, liveFor, foundAt, refusedOr, lookupRefusal, lookupAnswer}
-use Rattle.cache.specs.Scan.{stateOf, rankIn, foundOf, firstLetter, sameAfterFirst, sameRest, isSought, better, step, foundFrom, scanned, beginning, ownScanned, bothScanned, beyond, refusalFor, refusedPlan, planBy, planOf, answerBy, answerFrom}
+use Rattle.cache.specs.Scan.{stateOf, rankIn, foundOf, isSought, better, step, foundFrom, scanned, beginning, ownScanned, bothScanned, beyond, refusalFor, refusedPlan, planBy, planOf, answerBy, answerFrom}
 use Rattle.cache.proofs.Covered.{held-yes, held-no, outside-kept}
 use Rattle.cache.proofs.Pass.{ended-stays}
 use Rattle.cache.proofs.Stored.{held-length, held-at, sizes-are}
@@ -50,31 +46,6 @@ own-is : (d : List ℕ) (e : CacheEntry) (text : List ℕ) (b : Bool) → isAcce
 unfolding isOwn
 own-is d e text true h = rw (held-yes e text h) (sym (and-true (sameText (unfilled (e .domain)) d)))
 own-is d e text false h = rw (held-no e text h) (sym (and-false (sameText (unfilled (e .domain)) d)))
-
--- a field is a domain where its first letter is the domain's, and so is the rest
-zero-first : (f : List ℕ) → all isZero f ≡ true → getD f 0 0 ≡ 0
-unfolding all isZero
-zero-first [] h = refl
-zero-first (b ∷ f) h = eqb-true b 0 (and-left (eqb b 0) (all isZero f) h)
-
-letters-are : (f d : List ℕ) → length d ≤ length f → trimmedLength isZero f ≡ length d → (eqb (firstLetter f) (firstLetter d) && sameAfterFirst f d) ≡ sameText (take (length d) f) d
-unfolding sameAfterFirst firstLetter lowerOf agree sameLetter
-letters-are f [] m e = rw (zero-first f (trim-none isZero f e))
-letters-are [] (y ∷ d) m e = absurd (omega arith)
-letters-are (x ∷ f) (y ∷ d) m e = refl
-
-field-is : (f d : List ℕ) → (eqb (firstLetter f) (firstLetter d) && sameRest f d) ≡ sameText (unfilled f) d
-unfolding sameRest
-field-is f d = go (eqb (trimmedLength isZero f) (length d)) refl
-  where
-    first : Bool
-    first = eqb (firstLetter f) (firstLetter d)
-
-    go : (b : Bool) → eqb (trimmedLength isZero f) (length d) ≡ b → (first && (sameAfterFirst f d && b)) ≡ sameText (unfilled f) d
-    go true h =
-        let e : trimmedLength isZero f ≡ length d = eqb-true (trimmedLength isZero f) (length d) h in
-        ap (λ (b : Bool). first && b) (and-true (sameAfterFirst f d)) ∙ (letters-are f d (omega (arith, e, trim-le isZero f)) e ∙ ap (λ (k : ℕ). sameText (take k f) d) (sym e))
-    go false h = ap (λ (b : Bool). first && b) (and-false (sameAfterFirst f d)) ∙ (and-false first ∙ agree-length sameLetter (unfilled f) d (λ e. eqb-false (trimmedLength isZero f) (length d) h (sym (trim-length isZero f) ∙ e)))
 
 -- a place beyond both
 beyond-most : (n m : ℕ) → (n ≤ beyond n m) × (m ≤ beyond n m)
@@ -149,7 +120,7 @@ module _ (own : Bool) (clock : ℕ) (d x : List ℕ) where
   -- while nothing ends the pass, an entry is taken where its rank is better
   step-is : (s : Found) (e : CacheEntry) (i : ℕ) → 2 < s .rank → s .rank ≤ 4 → step own clock d x s e i ≡ taken s e i
   unfolding step isSought better
-  step-is s e i l m = rw (lt-ltb 2 (s .rank) l, field-is (e .domain) d) (go own (sameText (unfilled (e .domain)) d) refl)
+  step-is s e i l m = rw (lt-ltb 2 (s .rank) l) (go own (sameText (unfilled (e .domain)) d) refl)
     where
       go : (o b : Bool) → sameText (unfilled (e .domain)) d ≡ b
           → cond (not o || b) (cond (ltb (rankIn o (stateOf clock (heldAt i e))) (s .rank)) (foundOf (rankIn o (stateOf clock (heldAt i e))) i e) s) s

@@ -5,18 +5,16 @@ use mathlib.Core.Bool.{Bool, true, false, cond, not, _&&_, _||_}
 use mathlib.Core.List.{List, [], _∷_, _++_}
 use mathlib.Core.Option.{Option, none, some}
 use lib.Dec.{eqb, ltb}
-use lib.ListN.{length, getD, take, drop}
-use Rattle.lists.specs.Bytes.{lowerOf}
+use lib.ListN.{length, take, drop}
 use Rattle.lists.specs.Equal.{sameText}
-use Rattle.lists.specs.Span.{trimmedLength}
-use Rattle.lists.specs.Check.{Check, refusalOf}
+use Rattle.lists.specs.Check.{refusalOf}
 use Rattle.cache.specs.declared.CacheEntry.{CacheEntry}
 use Rattle.cache.specs.declared.State.{State}
 use Rattle.cache.specs.declared.State.the-variants as S
 use Rattle.cache.specs.declared.Found.{Found}
 use Rattle.cache.specs.declared.Plan.{Plan}
 use Rattle.cache.specs.declared.CacheAnswer.{CacheAnswer}
-use Rattle.cache.specs.Held.{Held, entries, textPlace, isZero, unfilled, filled, textAt, heldIn, noEntry}
+use Rattle.cache.specs.Held.{Held, entries, textPlace, unfilled, filled, textAt, heldIn, noEntry}
 use Rattle.cache.specs.Store.{isLiveAt, sizesFit, sizesCheck, argumentChecks, entryFor}
 use Rattle.cache.specs.Lookup.{onlyNumber, refusedOr, lookupRefusal}
 
@@ -38,21 +36,9 @@ rankIn false S.Live = 4
 unfoldable pub foundOf : ℕ → ℕ → CacheEntry → Found
 foundOf rank i e = record { rank = rank; place = i; fetched = e .fetched; length = e .length; id = e .id }
 
--- the first byte of a text, a capital as its small letter; 0 where there is none
-unfoldable pub firstLetter : List ℕ → ℕ
-firstLetter s = lowerOf (getD s 0 0)
-
--- the letters after the first are the same in a field and a domain, as far as the domain goes
-unfoldable pub sameAfterFirst : List ℕ → List ℕ → Bool
-sameAfterFirst field d = sameText (drop 1 (take (length d) field)) (drop 1 d)
-
--- a field is a domain but for the first letter of each: the letters after the first are the same, and less its final zeros the field is as long
-unfoldable pub sameRest : List ℕ → List ℕ → Bool
-sameRest field d = sameAfterFirst field d && eqb (trimmedLength isZero field) (length d)
-
--- an entry with this domain field has to be looked at: nothing is found yet that ends the pass, and in the pass for the own entry it is the domain's, whose first letter is given
-unfoldable pub isSought : Bool → ℕ → ℕ → List ℕ → List ℕ → Bool
-isSought own rank first field d = ltb 2 rank && (not own || (eqb (firstLetter field) first && sameRest field d))
+-- an entry with this domain field has to be looked at: nothing is found yet that ends the pass, and in the pass for the own entry it is the domain's
+unfoldable pub isSought : Bool → ℕ → List ℕ → List ℕ → Bool
+isSought own rank field d = ltb 2 rank && (not own || sameText (unfilled field) d)
 
 -- the entry e at position i, where its rank is lower than that of what is found
 unfoldable pub better : Bool → ℕ → List ℕ → Found → CacheEntry → ℕ → Found
@@ -63,7 +49,7 @@ better own clock x s e i =
 
 -- what is found after the entry e at position i
 unfoldable pub step : Bool → ℕ → (d x : List ℕ) → Found → CacheEntry → ℕ → Found
-step own clock d x s e i = cond (isSought own (s .rank) (firstLetter d) (e .domain) d) (better own clock x s e i) s
+step own clock d x s e i = cond (isSought own (s .rank) (e .domain) d) (better own clock x s e i) s
 
 -- what is found in a table from position i on
 unfoldable pub foundFrom : Bool → ℕ → (d x : List ℕ) → ℕ → Found → List CacheEntry → Found

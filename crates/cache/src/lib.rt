@@ -4,6 +4,7 @@ ghost use mathlib.Core.Path.{_≡_};
 ghost use mathlib.Core.Bool.{true, false};
 ghost use Prim.Native.Nat.{_≤_};
 ghost use lib.ListN.{length, set, take, drop};
+ghost use Rattle.lists.specs.Equal.{sameText};
 ghost use Rattle.lists.specs.Span.{trimmedLength};
 ghost use Rattle.lists.specs.Write.{wroteFront};
 ghost use Rattle.names.specs.Name.{isName};
@@ -12,7 +13,7 @@ ghost use Rattle.writing.specs.Over.{over};
 ghost use Rattle.cache.specs.Held.{textPlace, isZero, unfilled, filled, fieldsFit, heldIn, noEntry};
 ghost use Rattle.cache.specs.Store.{entryFor};
 ghost use Rattle.cache.specs.Lookup.{onlyNumber};
-ghost use Rattle.cache.specs.Scan.{stateOf, rankIn, foundOf, beginning, firstLetter, sameAfterFirst, sameRest, isSought, better, scanned, startAt, nextAt, beyond, refusedPlan, planOf, answerBy, answerFrom};
+ghost use Rattle.cache.specs.Scan.{stateOf, rankIn, foundOf, beginning, isSought, better, scanned, startAt, nextAt, beyond, refusedPlan, planOf, answerBy, answerFrom};
 use clock::Lifetime;
 use clock::Reading;
 
@@ -149,40 +150,28 @@ fn is_id_field(field: &[u8]) -> bool
     txt::is_id(unfilled_part(field))
 }
 
-// The first byte of a text, a capital as its small letter; 0 where there is none.
-fn first_letter(s: &[u8]) -> u8
-    ensures { λ r. ⌜ r ≡ firstLetter (now (s .entry)) ⌝ }
-{
-    if s.len() == 0 {
-        return 0;
-    }
-    lists::lower(s[0])
-}
-
-// Whether the letters after the first are the same in a field and a domain, as far as the domain goes, ignoring ASCII case.
-fn is_same_after_first(field: &[u8], domain: &[u8]) -> bool
-    ensures { λ r. ⌜ r ≡ sameAfterFirst (now (field .entry)) (now (domain .entry)) ⌝ }
+// Whether a field holds this domain, ignoring ASCII case. Another length is told first, by the byte where the domain's last one would stand and by the one behind it;
+// the final zeros are looked for only where the bytes before them are the same.
+fn holds_domain(field: &[u8], domain: &[u8]) -> bool
+    ensures { λ r. ⌜ r ≡ sameText (unfilled (now (field .entry))) (now (domain .entry)) ⌝ }
 {
     let n = domain.len();
-    if n < 2 {
-        return true;
+    if n < field.len() {
+        if field[n] != 0 {
+            return false;
+        }
+        if 0 < n {
+            if field[n - 1] == 0 {
+                return false;
+            }
+        }
     }
-    if field.len() < n {
-        return false;
-    }
-    lists::equal_by_letter(&field[1..n], &domain[1..])
-}
-
-// Whether a field holds this domain but for the first letter of each. The final zeros are looked for only where the bytes before them are the same.
-fn is_rest_of(field: &[u8], domain: &[u8]) -> bool
-    ensures { λ r. ⌜ r ≡ sameRest (now (field .entry)) (now (domain .entry)) ⌝ }
-{
-    let same = is_same_after_first(field, domain);
-    if !same {
+    let compared = names::compare(numbers::part(field, 0, n as u64), domain);
+    if !compared.equal {
         return false;
     }
     let size = unfilled_length(field);
-    size == domain.len()
+    size == n
 }
 
 // Whether the fields of an entry are accepted.
@@ -297,9 +286,9 @@ pub fn begin(n: usize, m: usize) -> Found
     nothing_found(4, n)
 }
 
-// Whether an entry with this domain field has to be looked at: most differ in the first letter.
-fn is_sought(own: bool, rank: u64, first: u8, field: &[u8], domain: &[u8]) -> bool
-    ensures { λ r. ⌜ r ≡ isSought own rank first (now (field .entry)) (now (domain .entry)) ⌝ }
+// Whether an entry with this domain field has to be looked at.
+fn is_sought(own: bool, rank: u64, field: &[u8], domain: &[u8]) -> bool
+    ensures { λ r. ⌜ r ≡ isSought own rank (now (field .entry)) (now (domain .entry)) ⌝ }
 {
     if rank <= 2 {
         return false;
@@ -307,11 +296,7 @@ fn is_sought(own: bool, rank: u64, first: u8, field: &[u8], domain: &[u8]) -> bo
     if !own {
         return true;
     }
-    let letter = first_letter(field);
-    if letter != first {
-        return false;
-    }
-    is_rest_of(field, domain)
+    holds_domain(field, domain)
 }
 
 // What is found, or the entry at position i where its rank is lower.
@@ -370,10 +355,9 @@ pub fn scan(
     ensures { λ r. ⌜ r ≡ scanned own clock (now (domain .entry)) start (now (table .entry)) (now (texts .entry)) ⌝ }
 {
     let mut found = start;
-    let first = first_letter(domain);
     let mut i = start_at(start.rank, table.len());
     while i < table.len() {
-        let sought = is_sought(own, found.rank, first, &table[i].domain, domain);
+        let sought = is_sought(own, found.rank, &table[i].domain, domain);
         if sought {
             found = better_at(own, clock, texts, found, table[i], i);
             i = next_at(found.rank, i, table.len());

@@ -148,7 +148,10 @@ fn host_fits(origin: Origin, host: &[u8], next_hop: &[u8]) -> bool
     match origin {
         Origin::SecureMx => true,
         Origin::InsecureMx => true,
-        Origin::NoMx => lists::equal_ignoring_case(host, next_hop),
+        Origin::NoMx => {
+            let compared = names::compare(host, next_hop);
+            compared.equal
+        }
     }
 }
 

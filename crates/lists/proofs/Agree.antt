@@ -4,10 +4,10 @@ use mathlib.Core.Path.{_≡_, refl, sym, ap, _∙_}
 use mathlib.Core.Bool.{Bool, true, false, cond, and-false}
 use mathlib.Core.List.{List, [], _∷_}
 use native.Mathlib.Omega.{arith}
-use lib.Dec.{eqb, leb}
+use lib.Dec.{eqb}
 use lib.ListN.{length, getD, drop, drop-of-length-le}
 use borrow.Author.Needs.{needs}
-use borrow.Author.Tests.{not-true, not-false, eq-eqb, ne-eqb, eqb-true, lt-leb}
+use borrow.Author.Tests.{not-true, not-false, eq-eqb, ne-eqb, eqb-true}
 use Rattle.lists.specs.Bytes.{within, lowerOf}
 use Rattle.lists.specs.Equal.{agree, sameByte, sameLetter, sameBytes, sameText}
 use Rattle.lists.proofs.Bools.{apart, never, and-left, and-right}
@@ -62,37 +62,29 @@ letter-swap x y = go (eqb (lowerOf x) (lowerOf y)) refl
     go true e = sym (eq-eqb (lowerOf y) (lowerOf x) (sym (eqb-true (lowerOf x) (lowerOf y) e)))
     go false e = sym (ne-eqb (lowerOf y) (lowerOf x) (λ k. apart (sym e ∙ eq-eqb (lowerOf x) (lowerOf y) (sym k))))
 
--- the small letter, by whether b is a capital
-lower-cases : (b : ℕ) → (t : Bool) → within 65 90 b ≡ t → lowerOf b ≡ cond t (b + 32) b
-unfolding lowerOf
-lower-cases b t e = rw e
-
 -- `is_capital_of`: c is below y; r is what `is_within` gave
-module _ (c y : ℕ) (h : c < y) where
-  pub capital-apart : (y - c ≡ 32 → ⊥) → false ≡ sameLetter c y
-  unfolding sameLetter
-  capital-apart d = sym (ne-eqb (lowerOf c) (lowerOf y) (λ k. go (within 65 90 c) (within 65 90 y) refl refl k))
+module _ (c y : ℕ) (h : c < y) (r : Bool) (gave : r ≡ within 65 90 c) where
+  pub capital-not : r ≡ false → false ≡ sameLetter c y
+  unfolding sameLetter lowerOf
+  capital-not f = sym (rw (sym gave ∙ f) (go (within 65 90 y)))
     where
-      go : (t u : Bool) → within 65 90 c ≡ t → within 65 90 y ≡ u → lowerOf c ≡ lowerOf y → ⊥
-      go true true p q k = let e : c + 32 ≡ y + 32 = sym (lower-cases c true p) ∙ (k ∙ lower-cases y true q) in absurd (omega arith)
-      go true false p q k = let e : c + 32 ≡ y = sym (lower-cases c true p) ∙ (k ∙ lower-cases y false q) in d (omega arith)
-      go false true p q k = let e : c ≡ y + 32 = sym (lower-cases c false p) ∙ (k ∙ lower-cases y true q) in absurd (omega arith)
-      go false false p q k = let e : c ≡ y = sym (lower-cases c false p) ∙ (k ∙ lower-cases y false q) in absurd (omega arith)
+      go : (t : Bool) → eqb c (cond t (y + 32) y) ≡ false
+      go true = ne-eqb c (y + 32) (λ e. omega (arith, h))
+      go false = ne-eqb c y (λ e. omega (arith, h))
 
-  pub capital-is : (r : Bool) → y - c ≡ 32 → r ≡ within 65 90 c → r ≡ sameLetter c y
-  unfolding sameLetter
-  capital-is r e g = go (within 65 90 c) refl g
+  pub capital-is : r ≡ true → eqb (c + 32) y ≡ sameLetter c y
+  unfolding sameLetter lowerOf
+  capital-is t = rw (sym gave ∙ t) (go (within 65 90 y) refl)
     where
-      far : within 65 90 c ≡ true → within 65 90 y ≡ false
-      far p = let k : (65 ≤ c) × (c ≤ 90) = within-true 65 90 c p in rw (lt-leb y 90 (omega arith)) (and-false (leb 65 y))
+      go : (u : Bool) → within 65 90 y ≡ u → eqb (c + 32) y ≡ eqb (c + 32) (cond u (y + 32) y)
+      go true e =
+          let z : y ≤ 90 = within-true 65 90 y e .1 in
+          let a : 65 ≤ c = within-true 65 90 c (sym gave ∙ t) .0 in
+          ne-eqb (c + 32) y (λ k. omega (arith, z, a)) ∙ sym (ne-eqb (c + 32) (y + 32) (λ k. omega (arith, h)))
+      go false e = refl
 
-      go : (t : Bool) → within 65 90 c ≡ t → r ≡ t → r ≡ eqb (lowerOf c) (lowerOf y)
-      go true p q = q ∙ sym (eq-eqb (lowerOf c) (lowerOf y) (lower-cases c true p ∙ (omega arith ∙ sym (lower-cases y false (far p)))))
-      go false p q = q ∙ sym (ne-eqb (lowerOf c) (lowerOf y) (λ k. other (within 65 90 y) refl k))
-        where
-          other : (u : Bool) → within 65 90 y ≡ u → lowerOf c ≡ lowerOf y → ⊥
-          other true w k = let z : c ≡ y + 32 = sym (lower-cases c false p) ∙ (k ∙ lower-cases y true w) in absurd (omega arith)
-          other false w k = let z : c ≡ y = sym (lower-cases c false p) ∙ (k ∙ lower-cases y false w) in absurd (omega arith)
+  pub capital-fits : r ≡ true → c + 32 < 256
+  capital-fits t = let w = within-true 65 90 c (sym gave ∙ t) in omega (arith, w .1)
 
 -- `is_same_letter`: r is what `is_capital_of` gave for the lower byte
 pub letter-above : (x y : ℕ) (r : Bool) → r ≡ sameLetter y x → r ≡ sameLetter x y
@@ -101,22 +93,7 @@ letter-above x y r g = g ∙ letter-swap y x
 pub letter-far : (x y : ℕ) → (x ≡ y → ⊥) → y ≤ x → y < x
 letter-far x y d h = omega (arith, d)
 
--- `lower`: r is whether b is a capital
-module _ (b : ℕ) (r : Bool) (g : r ≡ within 65 90 b) where
-  pub lower-capital : r ≡ true → b + 32 ≡ lowerOf b
-  unfolding lowerOf
-  lower-capital t = rw (sym g, t)
-
-  pub lower-other : r ≡ false → b ≡ lowerOf b
-  unfolding lowerOf
-  lower-other t = rw (sym g, t)
-
-  pub lower-fits : r ≡ true → b + 32 < 256
-  lower-fits t = let w = within-true 65 90 b (sym g ∙ t) in omega (arith, w .1)
-
-pub ruleset lower-laws = (lower-capital, lower-other, lower-fits, not-true, not-false, needs)
-
-pub ruleset letter-laws = (letter-same, capital-apart, capital-is, letter-above, letter-far, needs)
+pub ruleset letter-laws = (letter-same, capital-not, capital-is, capital-fits, letter-above, letter-far, not-true, not-false, needs)
 
 -- what agrees by a test that each element passes with itself: the list with itself
 pub agree-self : (p : ℕ → ℕ → Bool) → ((x : ℕ) → p x x ≡ true) → (a : List ℕ) → agree p a a ≡ true

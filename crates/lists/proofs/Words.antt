@@ -11,9 +11,9 @@ use lib.Seq.{getD-drop, drop-drop, take-take}
 use borrow.Author.Needs.{needs}
 use borrow.Author.Tests.{not-true, not-false, eq-eqb, ne-eqb, eqb-true, lt-leb, le-leb, leb-true}
 use Rattle.lists.specs.Bytes.{all, isBytes}
-use Rattle.lists.specs.Equal.{agree, sameByte, sameLetter}
+use Rattle.lists.specs.Equal.{agree, sameByte}
 use Rattle.lists.specs.Words.{numberOf, eightAt, firstEight}
-use Rattle.lists.proofs.Agree.{agree-length, letter-same}
+use Rattle.lists.proofs.Agree.{agree-length}
 use Rattle.lists.proofs.Bools.{apart, and-left, and-right}
 use Rattle.lists.proofs.Laws.{drop-take, take-rest, part-length}
 
@@ -90,35 +90,13 @@ eight-same a b i x y ka kb px ha py hb =
     let l : length (eightAt a i) ≡ length (eightAt b i) = rw (eight-is a i ka, eight-is b i kb) refl in
     rw (px, py) (numbers-same (eightAt a i) (eightAt b i) l ha hb)
 
--- what is the same byte by byte is the same letter by letter
-agree-more : (x y : List ℕ) → agree sameByte x y ≡ true → agree sameLetter x y ≡ true
-unfolding agree sameByte
-agree-more [] [] h = refl
-agree-more [] (d ∷ y) h = apart h
-agree-more (b ∷ x) [] h = apart h
-agree-more (b ∷ x) (d ∷ y) h =
-    let e : b ≡ d = eqb-true b d (and-left (eqb b d) (agree sameByte x y) h) in
-    let k : agree sameLetter x y ≡ true = agree-more x y (and-right (eqb b d) (agree sameByte x y) h) in
-    rw (sym (letter-same b d e), k) refl
-
--- a turn of a loop that compares n bytes at once, and its ends
-module _ (n : ℕ) (p : ℕ → ℕ → Bool) (a b : List ℕ) (i : ℕ) (inv : agree p a b ≡ agree p (drop i a) (drop i b)) where
-  part-next : agree p (take n (drop i a)) (take n (drop i b)) ≡ true → agree p a b ≡ agree p (drop (i + n) a) (drop (i + n) b)
-  part-next h = inv ∙ (agree-cut p n (drop i a) (drop i b) ∙ rw (h, drop-drop n i a, drop-drop n i b) refl)
-
-  part-differ : agree p (take n (drop i a)) (take n (drop i b)) ≡ false → false ≡ agree p a b
-  part-differ h = sym (inv ∙ (agree-cut p n (drop i a) (drop i b) ∙ rw h refl))
-
--- r is what the comparison of the n bytes gave
+-- a turn of a loop that compares n bytes at once, and its ends: r is what the comparison of the n bytes gave
 module _ (n : ℕ) (a b : List ℕ) (i : ℕ) (r : Bool) (gave : r ≡ agree sameByte (take n (drop i a)) (take n (drop i b))) where
   pub same-next : agree sameByte a b ≡ agree sameByte (drop i a) (drop i b) → r ≡ true → agree sameByte a b ≡ agree sameByte (drop (i + n) a) (drop (i + n) b)
-  same-next inv t = part-next n sameByte a b i inv (sym gave ∙ t)
+  same-next inv t = inv ∙ (agree-cut sameByte n (drop i a) (drop i b) ∙ rw (sym gave ∙ t, drop-drop n i a, drop-drop n i b) refl)
 
   pub same-differ : agree sameByte a b ≡ agree sameByte (drop i a) (drop i b) → r ≡ false → false ≡ agree sameByte a b
-  same-differ inv t = part-differ n sameByte a b i inv (sym gave ∙ t)
-
-  pub letters-next : agree sameLetter a b ≡ agree sameLetter (drop i a) (drop i b) → r ≡ true → agree sameLetter a b ≡ agree sameLetter (drop (i + n) a) (drop (i + n) b)
-  letters-next inv t = part-next n sameLetter a b i inv (agree-more (take n (drop i a)) (take n (drop i b)) (sym gave ∙ t))
+  same-differ inv t = sym (inv ∙ (agree-cut sameByte n (drop i a) (drop i b) ∙ rw (sym gave ∙ t) refl))
 
   -- twice as many bytes, by their two halves: t is what the comparison of the second gave
   twice : agree sameByte (take (n + n) (drop i a)) (take (n + n) (drop i b)) ≡ (r && agree sameByte (take n (drop (i + n) a)) (take n (drop (i + n) b)))
@@ -168,4 +146,4 @@ eight-part s i h =
 
 pub ruleset first-laws = (first-few, few-bytes, first-number, first-bytes, needs)
 
-pub ruleset eight-laws = (agree-length, eight-number, eight-bytes, eight-same, same-next, same-differ, letters-next, agree-rest, same-rest, not-true, not-false, needs)
+pub ruleset eight-laws = (agree-length, eight-number, eight-bytes, eight-same, same-next, same-differ, agree-rest, same-rest, not-true, not-false, needs)

@@ -5,8 +5,8 @@ ghost use Prim.Native.Nat.{_+_, _/_, _<_, _≤_};
 ghost use lib.Count.{trailingZeros};
 ghost use lib.Dec.{leb};
 ghost use lib.ListN.{length, take, drop};
-ghost use Rattle.lists.specs.Bytes.{within, isBytes, lowerOf};
-ghost use Rattle.lists.specs.Equal.{sameByte, sameLetter, sameBytes, sameText};
+ghost use Rattle.lists.specs.Bytes.{within, isBytes};
+ghost use Rattle.lists.specs.Equal.{sameByte, sameLetter, sameBytes};
 ghost use Rattle.lists.specs.Split.{indexOf};
 ghost use Rattle.lists.specs.Words.{numberOf, eightAt, firstEight};
 ghost use Rattle.lists.specs.Write.{wroteFront};
@@ -31,26 +31,16 @@ pub fn is_same_byte(x: u8, y: u8) -> bool
     x == y
 }
 
-// The small letter of an ASCII capital, and any other byte as it is.
-pub fn lower(b: u8) -> u8
-    ensures { λ r. ⌜ r ≡ lowerOf b ⌝ }
-{
-    let capital = is_within(b'A', b'Z', b);
-    if capital {
-        return b + 32;
-    }
-    b
-}
-
 // Whether c is an ASCII capital and y its small letter.
 fn is_capital_of(c: u8, y: u8) -> bool
     requires { ⌜ c < y ⌝ }
     ensures { λ r. ⌜ r ≡ sameLetter c y ⌝ }
 {
-    if y - c != 32 {
+    let capital = is_within(b'A', b'Z', c);
+    if !capital {
         return false;
     }
-    is_within(b'A', b'Z', c)
+    c + 32 == y
 }
 
 // Whether x and y are the same byte, where an ASCII capital and its small letter count as one.
@@ -192,50 +182,6 @@ pub fn equal_long(a: &[u8], b: &[u8]) -> bool
         i += 32;
     }
     equal(&a[i..], &b[i..])
-}
-
-// Whether a and b are the same text from the place `from` on, ignoring ASCII case.
-fn equal_ignoring_case_from(a: &[u8], b: &[u8], from: usize) -> bool
-    requires { ⌜ (from ≤ length (now a)) × (length (now a) ≡ length (now b)) ⌝ }
-    ensures { λ r. ⌜ r ≡ sameText (drop from (now (a .entry))) (drop from (now (b .entry))) ⌝ }
-{
-    let mut i = from;
-    while i < a.len() {
-        let same = is_same_letter(a[i], b[i]);
-        if !same {
-            return false;
-        }
-        i += 1;
-    }
-    true
-}
-
-// Whether a and b are the same text, ignoring ASCII case. They are compared eight bytes at a time as far as these are the same, and then letter by letter.
-pub fn equal_ignoring_case(a: &[u8], b: &[u8]) -> bool
-    ensures { λ r. ⌜ r ≡ sameText (now (a .entry)) (now (b .entry)) ⌝ }
-{
-    if a.len() != b.len() {
-        return false;
-    }
-    let mut i = 0;
-    while 8 <= a.len() - i {
-        let same = is_same_eight(a, b, i);
-        if !same {
-            return equal_ignoring_case_from(a, b, i);
-        }
-        i += 8;
-    }
-    equal_ignoring_case_from(a, b, i)
-}
-
-// The same as `equal_ignoring_case`, letter by letter from the first on: for texts of which most differ early.
-pub fn equal_by_letter(a: &[u8], b: &[u8]) -> bool
-    ensures { λ r. ⌜ r ≡ sameText (now (a .entry)) (now (b .entry)) ⌝ }
-{
-    if a.len() != b.len() {
-        return false;
-    }
-    equal_ignoring_case_from(a, b, 0)
 }
 
 // The index of the first b of s at or after `from`, or the length of s where there is none; `from` where it is past the end.

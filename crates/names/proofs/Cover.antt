@@ -1,7 +1,7 @@
 -- A text that equals a name ignoring ASCII case is a name; so `covers` tells of a name what `matchesName` says. Assumes nothing.
 use Prim.Native.Nat.{ℕ, suc, _+_, _-_, _<_, _≤_}
 use mathlib.Core.Path.{_≡_, refl, sym, ap, _∙_}
-use mathlib.Core.Bool.{Bool, true, false, cond, _&&_, _||_, and-false, and-assoc}
+use mathlib.Core.Bool.{Bool, true, false, cond, _&&_, _||_, and-false, or-false}
 use mathlib.Core.List.{List, [], _∷_, map}
 use native.Mathlib.Omega.{arith}
 use lib.Dec.{eqb, leb, ltb}
@@ -14,7 +14,7 @@ use Rattle.lists.proofs.Bools.{and-left, and-right, never}
 use Rattle.lists.proofs.Laws.{within-true}
 use Rattle.lists.proofs.Split.{split-first}
 use Rattle.names.specs.Name.{labelByte, isLabel, isName, isStarred, isWildcard, afterFirst, matchesName}
-use Rattle.names.specs.Scan.{coversName}
+use Rattle.names.specs.Scan.{followsDot, coversName}
 
 -- the small letters of a text
 abbrev lowered : List ℕ → List ℕ
@@ -163,19 +163,35 @@ same-nothing [] = rw nothing-no-name
 same-nothing (x ∷ a) = and-false (isName (x ∷ a))
 
 -- what follows `*.`, against what follows the first dot of a name
-after-same : (p n : List ℕ) → isName n ≡ true → (ltb (indexOf 46 n) (length n) && sameText (drop 2 p) (afterFirst n)) ≡ (isName (drop 2 p) && sameText (drop 2 p) (afterFirst n))
-after-same p n h = go (ltb (indexOf 46 n) (length n)) refl
+after-same : (s n : List ℕ) → isName n ≡ true → followsDot s n ≡ (isName s && sameText s (afterFirst n))
+unfolding followsDot
+after-same s n h = go (ltb (indexOf 46 n) (length n)) refl
   where
-    go : (t : Bool) → ltb (indexOf 46 n) (length n) ≡ t → (t && sameText (drop 2 p) (afterFirst n)) ≡ (isName (drop 2 p) && sameText (drop 2 p) (afterFirst n))
-    go true e = name-or-not (drop 2 p) (afterFirst n) (name-after n h (ltb-true (indexOf 46 n) (length n) e))
+    go : (t : Bool) → ltb (indexOf 46 n) (length n) ≡ t → (t && sameText s (afterFirst n)) ≡ (isName s && sameText s (afterFirst n))
+    go true e = name-or-not s (afterFirst n) (name-after n h (ltb-true (indexOf 46 n) (length n) e))
     go false e =
         let l : length n ≤ indexOf 46 n + 1 = omega (arith, ltb-false (indexOf 46 n) (length n) e) in
-        rw (drop-of-length-le n l) (sym (same-nothing (drop 2 p)))
+        rw (drop-of-length-le n l) (sym (same-nothing s))
+
+-- a text that begins with a star is no name
+star-no-name : (p : List ℕ) → getD p 0 0 ≡ 42 → isName p ≡ false
+unfolding isName isLabel labelByte split toFirst all
+star-no-name [] h = refl
+star-no-name (x ∷ s) h = go (split 46 s)
+  where
+    go : (ps : List (List ℕ)) → (within 1 253 (length (x ∷ s)) && all isLabel (cond (eqb x 46) ([] ∷ ps) (toFirst x ps))) ≡ false
+    go [] = simp (h, and-false)
+    go (q ∷ qs) = simp (h, and-false)
+
+pub starred-no-name : (p : List ℕ) → isStarred p ≡ true → isName p ≡ false
+unfolding isStarred
+starred-no-name p h = star-no-name p (eqb-true (getD p 0 0) 42 (and-right (leb 2 (length p)) (eqb (getD p 0 0) 42) (and-left (leb 2 (length p) && eqb (getD p 0 0) 42) (eqb (getD p 1 0) 46) h)))
 
 -- of a name n, `covers` says whether p matches n
 pub matches-covers : (p n : List ℕ) → isName n ≡ true → coversName p n ≡ matchesName p n
 unfolding coversName matchesName isWildcard
-matches-covers p n h =
-    let whole : sameText p n ≡ (isName p && sameText p n) = name-or-not p n h in
-    let rest : (isStarred p && ltb (indexOf 46 n) (length n) && sameText (drop 2 p) (afterFirst n)) ≡ (isStarred p && isName (drop 2 p) && sameText (drop 2 p) (afterFirst n)) = and-assoc (isStarred p) (ltb (indexOf 46 n) (length n)) (sameText (drop 2 p) (afterFirst n)) ∙ ap (λ (y : Bool). isStarred p && y) (after-same p n h) ∙ sym (and-assoc (isStarred p) (isName (drop 2 p)) (sameText (drop 2 p) (afterFirst n))) in
-    ap (λ (y : Bool). y || (isStarred p && ltb (indexOf 46 n) (length n) && sameText (drop 2 p) (afterFirst n))) whole ∙ (ap (λ (y : Bool). (isName p && sameText p n) || y) rest ∙ rw h)
+matches-covers p n h = rw h (go (isStarred p) refl)
+  where
+    go : (t : Bool) → isStarred p ≡ t → cond t (followsDot (drop 2 p) n) (sameText p n) ≡ ((isName p && sameText p n) || (t && isName (drop 2 p) && sameText (drop 2 p) (afterFirst n)))
+    go true e = rw (starred-no-name p e) (after-same (drop 2 p) n h)
+    go false e = name-or-not p n h ∙ sym (or-false (isName p && sameText p n))

@@ -20,8 +20,7 @@ use Rattle.lists.proofs.Laws.{drop-next}
 use Rattle.lists.proofs.Split.{split-first, split-after, index-after, index-there}
 use Rattle.lists.proofs.All.{all-lacks}
 use Rattle.names.specs.Name.{labelByte, isLabel, isName, isStarred, isWildcard, afterFirst, matchesName, someMatches}
-use Rattle.names.proofs.Cover.{name-same, rest-same, name-short, name-labels, same-nothing}
-use Rattle.names.proofs.Match.{starred-no-name}
+use Rattle.names.proofs.Cover.{name-same, rest-same, name-short, name-labels, same-nothing, starred-no-name}
 use Rattle.names.proofs.Name.{dot-outside}
 
 -- a name begins with no star

@@ -1,3 +1,4 @@
+pub mod Pairs
 pub mod Label
 pub mod Name
 pub mod Start

@@ -1,26 +1,28 @@
--- The returns of `is_label`, `is_under` and `read_pattern`. Assumes nothing.
+-- The returns of `is_label`, `is_under`, `read_pattern` and `matches`. Assumes nothing.
 use Prim.Native.Nat.{ℕ, suc, _+_, _-_, _<_, _≤_}
 use mathlib.Core.Path.{_≡_, refl, sym, ap, _∙_}
-use mathlib.Core.Bool.{Bool, true, false, not, _&&_, and-true, and-false}
+use mathlib.Core.Bool.{Bool, true, false, cond, _&&_, _||_, and-true, and-false}
 use mathlib.Core.List.{List, [], _∷_}
 use native.Mathlib.Omega.{arith}
-use lib.Dec.{eqb, leb}
-use lib.ListN.{length, getD, take, drop, drop-of-length-le}
+use lib.Dec.{eqb, leb, ltb}
+use lib.ListN.{length, getD, take, drop, length-drop, drop-of-length-le}
 use lib.Seq.{take-length}
 use borrow.Author.Needs.{needs}
-use borrow.Author.Tests.{not-true, not-false, le-leb, lt-leb, leb-true, leb-false, eq-eqb, ne-eqb}
+use borrow.Author.Tests.{not-true, not-false, le-leb, lt-leb, leb-true, leb-false, ltb-true, ltb-false, eq-eqb, ne-eqb}
 use Rattle.lists.specs.Bytes.{all}
-use Rattle.lists.specs.Equal.{sameText}
+use Rattle.lists.specs.Equal.{sameLetter, sameText}
 use Rattle.lists.specs.Span.{spanOf}
 use Rattle.lists.specs.Split.{indexOf, split}
+use Rattle.lists.proofs.Bools.{never, and-left, and-right}
+use Rattle.lists.proofs.Agree.{agree-lengths}
 use Rattle.lists.proofs.Laws.{take-rest}
 use Rattle.lists.proofs.Span.{span-le, span-reaches}
 use Rattle.lists.proofs.Split.{split-first}
 use Rattle.names.specs.declared.Pattern.{Pattern}
 use Rattle.names.specs.Name.{labelByte, isLabel, isName, isStarred, isWildcard, isPattern, afterFirst, matchesName, patternFor}
-use Rattle.names.specs.Scan.{labelEnds}
-use Rattle.names.proofs.Cover.{name-same, name-labels, same-nothing}
-use Rattle.names.proofs.Match.{starred-long, starred-no-name}
+use Rattle.names.specs.Scan.{labelEnds, followsDot}
+use Rattle.names.proofs.Cover.{name-same, name-labels, same-nothing, starred-no-name}
+use Rattle.names.proofs.Match.{starred-long}
 
 -- `is_label`: v is what `has_label_ends` gave, e what `label_from` gave
 module _ (l : List ℕ) where
@@ -53,40 +55,55 @@ module _ (l : List ℕ) where
 
 pub ruleset label-laws = (label-empty, label-first, label-unhyphened, label-ends, label-bytes, not-true, not-false, needs)
 
--- `is_under`: dot is where the first dot of n was found, q whether what follows it equals the name `rest`
-module _ (rest n : List ℕ) (named : isName rest ≡ true) (dot : ℕ) (found : dot ≡ 0 + indexOf 46 (drop 0 n)) where
-  pub under-one-label : length n ≤ dot → false ≡ (isName n && sameText rest (afterFirst n))
-  under-one-label h =
-      let l : length n ≤ indexOf 46 n + 1 = omega arith in
-      let k : sameText rest [] ≡ false = rw named at (same-nothing rest) in
-      sym (rw (drop-of-length-le n l, k) (and-false (isName n)))
+-- `is_under`: q is what `follows_dot` gave of the name `rest`
+module _ (rest n : List ℕ) (named : isName rest ≡ true) (q : Bool) (gave : q ≡ followsDot rest n) where
+  pub under-other : q ≡ false → false ≡ (isName n && sameText rest (afterFirst n))
+  unfolding followsDot
+  under-other f = go (ltb (indexOf 46 n) (length n)) refl (sym gave ∙ f)
+    where
+      go : (t : Bool) → ltb (indexOf 46 n) (length n) ≡ t → (t && sameText rest (afterFirst n)) ≡ false → false ≡ (isName n && sameText rest (afterFirst n))
+      go true e h = sym (rw h (and-false (isName n)))
+      go false e h =
+          let l : length n ≤ indexOf 46 n + 1 = omega (arith, ltb-false (indexOf 46 n) (length n) e) in
+          let k : sameText rest [] ≡ false = rw named at (same-nothing rest) in
+          sym (rw (drop-of-length-le n l, k) (and-false (isName n)))
 
-  module _ (h : dot < length n) (q : Bool) (same : q ≡ sameText rest (take (length n - (dot + 1)) (drop (dot + 1) n))) where
-    at : dot ≡ indexOf 46 n
-    at = omega arith
+  pub under-long : 253 < length n → false ≡ (isName n && sameText rest (afterFirst n))
+  unfolding isName
+  under-long k = simp (lt-leb (length n) 253 k, and-false)
 
-    same-rest : q ≡ sameText rest (afterFirst n)
-    same-rest = same ∙ rw (take-rest n (dot + 1), at)
+  -- what follows is `rest`, so the first dot stands right before as many bytes
+  module _ (t : q ≡ true) where
+    both : (ltb (indexOf 46 n) (length n) && sameText rest (afterFirst n)) ≡ true
+    unfolding followsDot
+    both = sym gave ∙ t
 
-    pub under-other : q ≡ false → false ≡ (isName n && sameText rest (afterFirst n))
-    under-other f = sym (rw (sym same-rest ∙ f) (and-false (isName n)))
+    inside : indexOf 46 n < length n
+    inside = ltb-true (indexOf 46 n) (length n) (and-left (ltb (indexOf 46 n) (length n)) (sameText rest (afterFirst n)) both)
 
-    pub under-long : 253 < length n → false ≡ (isName n && sameText rest (afterFirst n))
-    unfolding isName
-    under-long k = simp (lt-leb (length n) 253 k, and-false)
+    same : sameText rest (afterFirst n) ≡ true
+    same = and-right (ltb (indexOf 46 n) (length n)) (sameText rest (afterFirst n)) both
 
-    pub under-label : q ≡ true → length n ≤ 253 → (r : Bool) → r ≡ isLabel (take (dot - 0) (drop 0 n)) → r ≡ (isName n && sameText rest (afterFirst n))
+    dot-is : length n - length rest - 1 ≡ indexOf 46 n
+    dot-is = omega (arith, inside, agree-lengths sameLetter rest (afterFirst n) same, length-drop (indexOf 46 n + 1) n)
+
+    pub under-shorter : length rest ≤ length n
+    under-shorter = omega (arith, inside, agree-lengths sameLetter rest (afterFirst n) same, length-drop (indexOf 46 n + 1) n)
+
+    pub under-room : 1 ≤ length n - length rest
+    under-room = omega (arith, inside, agree-lengths sameLetter rest (afterFirst n) same, length-drop (indexOf 46 n + 1) n)
+
+    pub under-label : length n ≤ 253 → (r : Bool) → r ≡ isLabel (take (length n - length rest - 1 - 0) (drop 0 n)) → r ≡ (isName n && sameText rest (afterFirst n))
     unfolding isName all
-    under-label t k r e =
-        let s : sameText rest (afterFirst n) ≡ true = sym same-rest ∙ t in
+    under-label k r e =
         let o : suc (indexOf 46 n) ≡ indexOf 46 n + 1 = omega arith in
-        let p : split 46 n ≡ take (indexOf 46 n) n ∷ split 46 (afterFirst n) = rw (← o) (split-first 46 n (omega arith)) in
-        let w : all isLabel (split 46 (afterFirst n)) ≡ true = name-labels (afterFirst n) (sym (name-same rest (afterFirst n) s) ∙ named) in
-        let d : dot - 0 ≡ indexOf 46 n = omega arith in
+        let p : split 46 n ≡ take (indexOf 46 n) n ∷ split 46 (afterFirst n) = rw (← o) (split-first 46 n inside) in
+        let w : all isLabel (split 46 (afterFirst n)) ≡ true = name-labels (afterFirst n) (sym (name-same rest (afterFirst n) same) ∙ named) in
+        let d : length n - length rest - 1 - 0 ≡ indexOf 46 n = omega (arith, dot-is) in
         let g : r ≡ isLabel (take (indexOf 46 n) n) = rw d at e in
-        simp (s, p, w, le-leb 1 (length n) (omega arith), le-leb (length n) 253 k, and-true) g
+        simp (same, p, w, le-leb 1 (length n) (omega (arith, inside)), le-leb (length n) 253 k, and-true) g
 
-pub ruleset under-laws = (under-one-label, under-other, under-long, under-label, not-true, not-false, needs)
+pub ruleset under-laws = (under-other, under-long, under-shorter, under-room, under-label, not-true, not-false, needs)
 
 -- `read_pattern`: r is what `is_starred` gave, m what `is_name` gave
 module _ (p n : List ℕ) (r : Bool) (gave : r ≡ isStarred p) (m : Bool) where
@@ -143,3 +160,36 @@ pub known-name : (s : List ℕ) (m : Bool) → m ≡ isName s → m ≡ true →
 known-name s m e t = sym e ∙ t
 
 pub ruleset read-pattern-laws = (known-name, wild-malformed, wild-matching, wild-other, plain-malformed, plain-matching, plain-other, starred-long, not-true, not-false, needs)
+
+-- `matches`: r is what `read_pattern` gave
+module _ (p n : List ℕ) (r : Pattern) (gave : r ≡ patternFor p n) where
+  pub matches-matching : r ≡ Pattern.Matching → true ≡ matchesName p n
+  unfolding patternFor
+  matches-matching e = go (isPattern p) (matchesName p n) (sym e ∙ gave)
+    where
+      go : (a b : Bool) → Pattern.Matching ≡ cond a (cond b Pattern.Matching Pattern.Other) Pattern.Malformed → true ≡ b
+      go true true h = refl
+      go true false h = never cc
+      go false b h = never cc
+
+  pub matches-other : r ≡ Pattern.Other → false ≡ matchesName p n
+  unfolding patternFor
+  matches-other e = go (isPattern p) (matchesName p n) (sym e ∙ gave)
+    where
+      go : (a b : Bool) → Pattern.Other ≡ cond a (cond b Pattern.Matching Pattern.Other) Pattern.Malformed → false ≡ b
+      go true true h = never cc
+      go true false h = refl
+      go false b h = never cc
+
+  pub matches-malformed : r ≡ Pattern.Malformed → false ≡ matchesName p n
+  unfolding patternFor isPattern matchesName
+  matches-malformed e = go (isName p) (isWildcard p) (matchesName p n) (sym e ∙ gave)
+    where
+      go : (a b m : Bool) → Pattern.Malformed ≡ cond (a || b) (cond m Pattern.Matching Pattern.Other) Pattern.Malformed → false ≡ (isName n && (a && sameText p n || b && sameText (drop 2 p) (afterFirst n)))
+      go true b true h = never cc
+      go true b false h = never cc
+      go false true true h = never cc
+      go false true false h = never cc
+      go false false m h = sym (and-false (isName n))
+
+pub ruleset matches-laws = (matches-matching, matches-other, matches-malformed, needs)

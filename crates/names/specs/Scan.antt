@@ -1,7 +1,7 @@
 -- How the code tests and compares in one pass: not the paper's words, but the same answers (proofs/Start.antt, proofs/Name.antt, proofs/Cover.antt and proofs/Match.antt join them).
 use Prim.Native.Char.{code}
 use Prim.Native.Nat.{ℕ, _-_}
-use mathlib.Core.Bool.{Bool, not, _&&_, _||_}
+use mathlib.Core.Bool.{Bool, cond, not, _&&_}
 use mathlib.Core.List.{List}
 use lib.Dec.{eqb, ltb}
 use lib.ListN.{length, getD, drop}
@@ -19,6 +19,10 @@ startsLabel s at = ltb at (length s) && letterOrDigit (getD s at 0)
 unfoldable pub labelEnds : List ℕ → Bool
 labelEnds l = within 1 63 (length l) && not (eqb (getD l 0 0) (code "-")) && not (eqb (getD l (length l - 1) 0) (code "-"))
 
--- the texts are equal, or p begins with `*.` and what follows is what follows the first dot of n: for a name n, p matches n
+-- n has a dot, and what follows the first is the text `rest`
+unfoldable pub followsDot : List ℕ → List ℕ → Bool
+followsDot rest n = ltb (indexOf (code ".") n) (length n) && sameText rest (afterFirst n)
+
+-- what follows the first dot of n is what p has behind `*.`; or, where p begins otherwise, n is p: for a name n, p matches n
 unfoldable pub coversName : List ℕ → List ℕ → Bool
-coversName p n = sameText p n || isStarred p && ltb (indexOf (code ".") n) (length n) && sameText (drop 2 p) (afterFirst n)
+coversName p n = cond (isStarred p) (followsDot (drop 2 p) n) (sameText p n)

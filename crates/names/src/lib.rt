@@ -10,8 +10,49 @@ ghost use Rattle.lists.specs.Equal.{sameText};
 ghost use Rattle.lists.specs.Span.{spanOf};
 ghost use Rattle.numbers.specs.Numbers.{numbers};
 ghost use Rattle.numbers.specs.Pieces.{cut};
+ghost use Rattle.names.specs.Pairs.{comparison};
 ghost use Rattle.names.specs.Name.{labelByte, isLabel, isName, isStarred, isPattern, afterFirst, matchesName, patternFor, someMatches};
-ghost use Rattle.names.specs.Scan.{startsLabel, labelEnds, coversName};
+ghost use Rattle.names.specs.Scan.{startsLabel, labelEnds, followsDot, coversName};
+
+// What comparing two texts ignoring ASCII case gave: whether they are equal, and how many byte pairs were read.
+pub struct Comparison {
+    pub equal: bool,
+    pub pairs: usize,
+}
+
+// Compares texts of one length by byte pairs, one by one from the right, up to and with the first that differs; each is counted as it is read.
+fn compare_pairs(a: &[u8], b: &[u8]) -> Comparison
+    requires { ⌜ length (now a) ≡ length (now b) ⌝ }
+    ensures { λ r. ⌜ r ≡ comparison (now (a .entry)) (now (b .entry)) ⌝ }
+{
+    let mut pairs = 0;
+    let mut unread = a.len();
+    while 0 < unread {
+        unread -= 1;
+        let same = lists::is_same_letter(a[unread], b[unread]);
+        pairs += 1;
+        if !same {
+            return Comparison {
+                equal: false,
+                pairs,
+            };
+        }
+    }
+    Comparison { equal: true, pairs }
+}
+
+// Compares two texts ignoring ASCII case: their lengths first, then byte pairs from the right. Equal is the same text; that follows from the definition, and is said for the callers.
+pub fn compare(a: &[u8], b: &[u8]) -> Comparison
+    ensures { λ r. ⌜ (r ≡ comparison (now (a .entry)) (now (b .entry))) × (r .equal ≡ sameText (now (a .entry)) (now (b .entry))) ⌝ }
+{
+    if a.len() != b.len() {
+        return Comparison {
+            equal: false,
+            pairs: 0,
+        };
+    }
+    compare_pairs(a, b)
+}
 
 // Whether b is a letter, a digit or a hyphen. A dot, which ends most labels, is told before capitals and digits.
 fn is_label_byte(b: u8) -> bool
@@ -162,22 +203,31 @@ fn is_label(l: &[u8]) -> bool
     end == l.len()
 }
 
-// Whether n is a name made of one label, a dot and the name `rest`.
-fn is_under(rest: &[u8], n: &[u8]) -> bool
-    requires { ⌜ isName (now rest) ≡ true ⌝ }
-    ensures { λ r. ⌜ r ≡ (isName (now (n .entry)) && sameText (now (rest .entry)) (afterFirst (now (n .entry)))) ⌝ }
+// Whether n has a dot, and what follows the first equals `rest`.
+fn follows_dot(rest: &[u8], n: &[u8]) -> bool
+    ensures { λ r. ⌜ r ≡ followsDot (now (rest .entry)) (now (n .entry)) ⌝ }
 {
     let dot = lists::find(n, b'.', 0);
     if n.len() <= dot {
         return false;
     }
-    let equal = lists::equal_ignoring_case(rest, &n[dot + 1..]);
-    if !equal {
+    let compared = compare(rest, &n[dot + 1..]);
+    compared.equal
+}
+
+// Whether n is a name made of one label, a dot and the name `rest`.
+fn is_under(rest: &[u8], n: &[u8]) -> bool
+    requires { ⌜ isName (now rest) ≡ true ⌝ }
+    ensures { λ r. ⌜ r ≡ (isName (now (n .entry)) && sameText (now (rest .entry)) (afterFirst (now (n .entry)))) ⌝ }
+{
+    let follows = follows_dot(rest, n);
+    if !follows {
         return false;
     }
     if 253 < n.len() {
         return false;
     }
+    let dot = n.len() - rest.len() - 1;
     is_label(&n[0..dot])
 }
 
@@ -201,41 +251,35 @@ pub fn read_pattern(p: &[u8], n: &[u8]) -> Pattern
     if !named {
         return Pattern::Malformed;
     }
-    let equal = lists::equal_ignoring_case(p, n);
-    if equal {
+    let compared = compare(p, n);
+    if compared.equal {
         return Pattern::Matching;
     }
     Pattern::Other
-}
-
-// Whether the texts are equal, or the pattern is `*.` and what follows the first dot of n: of a name n, whether the pattern matches it.
-fn covers(pattern: &[u8], n: &[u8]) -> bool
-    ensures { λ r. ⌜ r ≡ coversName (now (pattern .entry)) (now (n .entry)) ⌝ }
-{
-    let equal = lists::equal_ignoring_case(pattern, n);
-    if equal {
-        return true;
-    }
-    let starred = is_starred(pattern);
-    if !starred {
-        return false;
-    }
-    let dot = lists::find(n, b'.', 0);
-    if n.len() <= dot {
-        return false;
-    }
-    lists::equal_ignoring_case(&pattern[2..], &n[dot + 1..])
 }
 
 // Whether the pattern matches the name n; false where n is no name, or the pattern is neither a name nor `*.` and a name.
 pub fn matches(pattern: &[u8], n: &[u8]) -> bool
     ensures { λ r. ⌜ r ≡ matchesName (now (pattern .entry)) (now (n .entry)) ⌝ }
 {
-    let covered = covers(pattern, n);
-    if !covered {
-        return false;
+    let read = read_pattern(pattern, n);
+    match read {
+        Pattern::Malformed => false,
+        Pattern::Matching => true,
+        Pattern::Other => false,
     }
-    is_name(n)
+}
+
+// Whether the pattern is `*.` and what follows the first dot of n, or begins otherwise and equals n: of a name n, whether the pattern matches it.
+fn covers(pattern: &[u8], n: &[u8]) -> bool
+    ensures { λ r. ⌜ r ≡ coversName (now (pattern .entry)) (now (n .entry)) ⌝ }
+{
+    let starred = is_starred(pattern);
+    if starred {
+        return follows_dot(&pattern[2..], n);
+    }
+    let compared = compare(pattern, n);
+    compared.equal
 }
 
 // Whether one of some texts, which stand one after another with these lengths, covers n.

@@ -45,8 +45,8 @@ is-name-requires-2 c κs = search read-pattern-laws
 returns-4 : tie.Need-returns-4
 returns-4 c = search read-pattern-laws
 
-equal-ignoring-case-requires : tie.Need-equal-ignoring-case-requires
-equal-ignoring-case-requires c κs = search read-pattern-laws
+compare-requires : tie.Need-compare-requires
+compare-requires c κs = search read-pattern-laws
 
 returns-5 : tie.Need-returns-5
 returns-5 c = search read-pattern-laws
@@ -72,6 +72,6 @@ read-pattern-spec =
     returns-3
     is-name-requires-2
     returns-4
-    equal-ignoring-case-requires
+    compare-requires
     returns-5
     returns-6)

@@ -12,8 +12,8 @@ enum-told-2 c = search host-laws
 enum-told-3 : tie.Need-enum-told-3
 enum-told-3 c = search host-laws
 
-equal-ignoring-case-requires : tie.Need-equal-ignoring-case-requires
-equal-ignoring-case-requires c κs = search host-laws
+compare-requires : tie.Need-compare-requires
+compare-requires c κs = search host-laws
 
 returns : tie.Need-returns
 returns c = search host-laws
@@ -27,11 +27,4 @@ returns-3 c = search host-laws
 pub host-fits-spec : {M : Type 1} → statement M
 host-fits-spec =
     tie.close
-    (tie.spec
-    enum-told
-    enum-told-2
-    enum-told-3
-    equal-ignoring-case-requires
-    returns
-    returns-2
-    returns-3)
+    (tie.spec enum-told enum-told-2 enum-told-3 compare-requires returns returns-2 returns-3)
