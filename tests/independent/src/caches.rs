@@ -19,7 +19,7 @@ impl Cache {
     }
 
     /// Puts an entry down unchecked, as some other program may have; the bytes after the text stay.
-    fn put(&mut self, i: usize, domain: &[u8], id: &[u8], fetched: u64, text: &[u8]) {
+    pub fn put(&mut self, i: usize, domain: &[u8], id: &[u8], fetched: u64, text: &[u8]) {
         let entry = &mut self.table[i];
         *entry = Entry { padding: entry.padding, fetched, length: text.len() as u64, ..Entry::ZERO };
         entry.domain[..domain.len()].copy_from_slice(domain);

@@ -83,7 +83,10 @@ fn compared<T: PartialEq + Debug>(ours: T, theirs: T) -> Result<(), String> {
     if ours == theirs { Ok(()) } else { Err(format!("the answer differs\n  rules   {ours:?}\n  library {theirs:?}")) }
 }
 
-fn look_up(lender: &mut Lender, cache: &Cache, clock: u64, domain: &[u8], place: Place, counts: &mut Counts) -> Result<(), String> {
+/// The number of the answer, or what differs.
+type Asked = Result<u64, String>;
+
+fn look_up(lender: &mut Lender, cache: &Cache, clock: u64, domain: &[u8], place: Place, counts: &mut Counts) -> Asked {
     let ours = cache::lookup(clock, domain, &cache.table, &cache.texts);
     let theirs = lender.cache_lookup(clock, domain, &cache.table, &cache.texts, place);
     *counts.lookups.entry(ours.number).or_insert(0) += 1;
@@ -91,10 +94,11 @@ fn look_up(lender: &mut Lender, cache: &Cache, clock: u64, domain: &[u8], place:
         // At clock 0 every entry is live, but for those of lifetime 0.
         counts.way(if is_live_own(cache, 0, domain) { WAYS[4] } else { WAYS[5] });
     }
-    compared(ours, theirs)
+    compared(ours, theirs)?;
+    Ok(ours.number)
 }
 
-fn store(lender: &mut Lender, cache: &mut Cache, c: &StoreCall, place: Place, counts: &mut Counts) -> Result<(), String> {
+fn store(lender: &mut Lender, cache: &mut Cache, c: &StoreCall, place: Place, counts: &mut Counts) -> Asked {
     let (mut ours, mut theirs) = (cache.clone(), cache.clone());
     let target = cache::stored(c.clock, &c.domain, &c.id, &c.policy, &mut ours.table, &mut ours.texts);
     let answer = cache::store_answer(target);
@@ -117,12 +121,11 @@ fn store(lender: &mut Lender, cache: &mut Cache, c: &StoreCall, place: Place, co
         return Err(first_difference(&ours, &theirs));
     }
     *cache = theirs;
-    Ok(())
+    Ok(answer.0)
 }
 
 /// Asks both for the same call on the same cache, which becomes what they made of it.
-#[rustfmt::skip]
-fn ask(lender: &mut Lender, cache: &mut Cache, call: &Call, place: Place, say: bool, counts: &mut Counts) -> Result<(), String> {
+pub fn ask(lender: &mut Lender, cache: &mut Cache, call: &Call, place: Place, say: bool, counts: &mut Counts) -> Asked {
     if say {
         println!("  {}", arguments::cache_call(call));
     }
@@ -147,7 +150,7 @@ fn single(lender: &mut Lender, r: &mut Random, say: bool, counts: &mut Counts) -
     if say {
         print!("{}", arguments::cache(&cache));
     }
-    ask(lender, &mut cache, &call, place, say, counts)
+    ask(lender, &mut cache, &call, place, say, counts).map(drop)
 }
 
 /// Calls on one table, mostly from an empty one, with clocks that mostly rise; between them entries are damaged.

@@ -1,12 +1,16 @@
 //! Every length from 0 to 72 of what the library may look at several bytes at a time: the value of a policy's line and of a TXT
-//! field, names, and certificates and key infos compared whole. Each is asked as it is right and with another byte, or a few, at
-//! each place. Then the lines of a policy that offend, at each place among others and after lines of each length. An input is
-//! lent on every side (`Place::each`), and the answer must be the same on all of them.
+//! field, names, certificates and key infos compared whole, and the domains of a cache. Each is asked as it is right and with
+//! another byte, or a few, at each place. Then the lines of a policy that offend, at each place among others and after lines of
+//! each length. An input is lent on every side (`Place::each`), and the answer must be the same on all of them; only a cache,
+//! which is long, is lent on one side.
 
-use crate::boundary::{self, Lender, Place};
+use crate::boundary::{self, Lender, Place, StoreCall};
+use crate::caches::{Cache, Call};
 use crate::examples::{one_record, plain};
 use crate::inputs::{lengths_of, list, EDGES, LETTERS, UTF8_EDGES};
-use crate::{arguments, Table};
+use crate::random::Random;
+use crate::{arguments, histories, Table};
+use independent_rules::cache::ENTRIES;
 use independent_rules::rules::{self, HostCall, TlsaAnswer};
 use std::fmt::Debug;
 use std::panic::AssertUnwindSafe;
@@ -23,6 +27,13 @@ struct Check<'a> {
 }
 
 impl Check<'_> {
+    /// Counts an input. Whether it is to be asked.
+    fn begins(&mut self) -> bool {
+        self.inputs += 1;
+        boundary::CURRENT.with(|c| c.set((0, "lengths", self.inputs)));
+        self.only.map_or(true, |only| only == self.inputs)
+    }
+
     /// Asks the rules once and the library on every side, and compares all that they answer.
     fn ask<T: Debug + PartialEq>(
         &mut self,
@@ -31,11 +42,9 @@ impl Check<'_> {
         theirs: impl Fn(&mut Lender, Place) -> T,
         number: impl Fn(&T) -> u64,
     ) {
-        self.inputs += 1;
-        if self.only.map_or(false, |only| only != self.inputs) {
+        if !self.begins() {
             return;
         }
-        boundary::CURRENT.with(|c| c.set((0, "lengths", self.inputs)));
         let ours = ours();
         if self.only.is_some() {
             println!("{}\n  rules   {ours:?}", arguments());
@@ -92,6 +101,29 @@ impl Check<'_> {
             |lender, place| lender.judge_host(call, place),
             |answer| answer.0,
         );
+    }
+
+    /// A call on one of the caches, in which some entry has a live policy, and these bytes at the front of its domain's field. The
+    /// case's number decides which cache and entry, and on which side they are lent.
+    fn cache(&mut self, caches: &[Cache], field: &[u8], call: &Call) {
+        if !self.begins() {
+            return;
+        }
+        let mut r = Random::new(0, 0, self.inputs);
+        let (mut cache, say) = (r.pick(caches).clone(), self.only.is_some());
+        cache.put(r.below(ENTRIES), field, b"held", plain().clock, LIVE);
+        if say {
+            print!("{}", arguments::cache(&cache));
+        }
+        let place = Place::random(&mut r);
+        match histories::ask(self.lender, &mut cache, call, place, say, &mut Default::default()) {
+            Ok(number) => *self.table.entry(number).or_insert(0) += 1,
+            Err(what) => {
+                println!("DIFFERENCE\nlengths case {}, held {}\n{what}", self.inputs, field.escape_ascii());
+                std::process::exit(1);
+            }
+        }
+        self.calls += 1;
     }
 
     /// A part of the test; answers of these numbers must be among its own.
@@ -467,6 +499,61 @@ fn compared_digests(c: &mut Check) {
     }
 }
 
+// ------------------------------------------------------------------------------------------------------- domains of a cache
+
+const LIVE: &[u8] = b"version:STSv1\nmode:none\nmax_age:86400\n";
+const FIELD: usize = 253;
+
+/// What may stand in the field of an entry's domain, less its final zeros: this domain and what is near it, each alone, and with a
+/// byte right behind it, one further or at the field's end, in turn. Then the domain with a zero at each place, with a byte at
+/// each place behind it, with a text behind a zero, and in other case. What doesn't fit in the field is cut off.
+fn near_fields(domain: &[u8], mut f: impl FnMut(&[u8])) {
+    const BEHIND: [u8; 5] = *b"a\x01 \x80\xff";
+    let n = domain.len();
+    let with = |s: &[u8], at: usize| [s, &vec![0; at - s.len()], &[BEHIND[(n + at) % 5]]].concat();
+    let mut turn = n;
+    near(domain, &[0x20, 0x01, 0x40, 0x80, 0xa0], |other| {
+        let other = &other[..other.len().min(FIELD)];
+        f(other);
+        let at = [other.len(), other.len() + 1, FIELD - 1][turn % 3];
+        if (other.len()..FIELD).contains(&at) {
+            f(&with(other, at));
+        }
+        turn += 1;
+    });
+    with_each(domain, &[b"\0"], &mut f);
+    (n..FIELD).for_each(|at| f(&with(domain, at)));
+    let text = [domain, b"\0", domain].concat();
+    f(&text[..text.len().min(FIELD)]);
+    f(&domain.iter().map(|b| if b.is_ascii_alphabetic() { b ^ 0x20 } else { *b }).collect::<Vec<u8>>());
+}
+
+/// The call for a domain, on a cache whose other entries are empty, or live and of other domains. Then for the domain with a zero
+/// and a text behind it, which is no name, where an entry has the domain itself.
+fn compared_domains(c: &mut Check, call: fn(&[u8]) -> Call) {
+    let mut caches = [Cache::zero(), Cache::zero()];
+    for i in 0..ENTRIES {
+        caches[1].put(i, format!("d{i}.example").as_bytes(), b"other", plain().clock, LIVE);
+    }
+    for n in (1..=LONGEST).chain(250..=FIELD) {
+        for label in [63, n % 9 + 1] {
+            let domain = name(n, label);
+            let asked = call(&domain);
+            near_fields(&domain, |field| c.cache(&caches, field, &asked));
+            near(&[&domain, &b"\0b"[..]].concat(), &[], |other| c.cache(&caches, &domain, &call(other)));
+        }
+    }
+}
+
+fn look_up(domain: &[u8]) -> Call {
+    Call::Lookup { clock: plain().clock, domain: domain.to_vec() }
+}
+
+fn store(domain: &[u8]) -> Call {
+    let policy = b"version:STSv1\nmode:none\nmax_age:1".to_vec();
+    Call::Store(StoreCall { clock: plain().clock, domain: domain.to_vec(), id: b"new".to_vec(), policy })
+}
+
 /// All parts, or the one input alone, printed; the number of the library's answers that were compared.
 pub fn run(lender: &mut Lender, only: Option<u64>) -> u64 {
     let begun = Instant::now();
@@ -487,6 +574,8 @@ pub fn run(lender: &mut Lender, only: Option<u64>) -> u64 {
         c.part("names compared", &[3, 4, 23, 26, 27, 53, 57, 61], compared_names);
         c.part("certificates compared", &[3, 26], compared_certificates);
         c.part("digests compared", &[3, 26], compared_digests);
+        c.part("domains looked up", &[15, 60, 72], |c| compared_domains(c, look_up));
+        c.part("domains stored", &[15, 60, 70], |c| compared_domains(c, store));
     }));
     if all.is_err() {
         println!("FAILED: lengths case {}", c.inputs);
