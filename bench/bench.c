@@ -25,11 +25,11 @@ static const struct promise {
     {TABLES, NULL, 1.1, "every row but those below", "the aim is 1.0"},
     {CACHE, NULL, 1.5, "policy cache",
      "domains and ids are filled up with zeros, which plain C reads with the C library's `memchr` and `memcmp`, chosen by the processor; the archive calls neither"},
-    {CACHE, lookup_of_none, 1.6, "the lookup that finds none of 64 entries",
+    {CACHE, lookup_of_none, 1.6, "the lookup that finds none of 64 domains of many lengths",
      "for an entry with a longer domain plain C tests one byte and goes on, 8 instructions; the library's pass also tests which entries it looks for and whether its search is over, 13"},
     {DNS_IDS, NULL, 1.3, "DNS-IDs as long as the host's name",
-     "that the host is a name is tested once more where a DNS-ID equals it, and its first label where a pattern does: each crate promises its answer for every text"},
-    {OTHER_DNS_IDS, NULL, 1.3, "DNS-IDs of another length", "the library clips each name at the end of the bytes, though the lengths were checked before: a promise for every input again"},
+     "that the host is a name is tested once more where a DNS-ID equals it, and its first label where a pattern with a star matches it: each crate promises its answer for every text"},
+    {OTHER_DNS_IDS, NULL, 1.3, "DNS-IDs of another length", "held against two references, a name takes 52 instructions, plain C's 47, since the library clips it at the end of the bytes once more; the rest of the call takes 1,135 and 1,025"},
     {DECISIONS, mta_sts_decision, 1.3, "the decision by MTA-STS", "as with DNS-IDs: four calls hold a pattern against the host, one a DNS-ID"},
     {HOSTS, NULL, 1.5, "hosts of a message",
      "the form of that walk is fixed, arrays of 32 by value with a count: the library reads the lists into arrays and walks those, plain C walks the lists themselves"},
@@ -388,6 +388,9 @@ int main(int argc, char **argv)
 
     if (argc < 2 || argc % 2 != 0)
         return usage();
+    for (int k = 2; k < argc; k += 2)
+        if (strcmp(argv[k], "--clang") != 0 && strcmp(argv[k], "--before") != 0)
+            return usage();
     for (size_t i = 0; i < THREADS; i++)
         inputs[i] = build_inputs();
     if (!check_answers(inputs[0]))
@@ -398,11 +401,9 @@ int main(int argc, char **argv)
         if (strcmp(argv[k], "--clang") == 0) {
             read_counts(argv[k + 1], inputs[0], results.clang);
             results.has_clang = 1;
-        } else if (strcmp(argv[k], "--before") == 0) {
+        } else {
             read_counts(argv[k + 1], inputs[0], results.before);
             results.has_before = 1;
-        } else {
-            return usage();
         }
     }
     measure(&results, inputs);

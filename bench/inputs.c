@@ -509,7 +509,7 @@ static void give_policy(struct facts *f)
     f->fetched = f->clock - 1000;
 }
 
-/* A policy of mx lines that ends in one for the host, which is the leaf's only name. */
+/* A policy of mx lines that ends in one for the host; the host is the leaf's only name. */
 static void give_mx_policy(struct facts *f, size_t size, const char *host)
 {
     char last[64];

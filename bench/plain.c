@@ -486,7 +486,7 @@ static struct slice content(const uint8_t *field, size_t room)
     return (struct slice){field, is_filled_up(field, room, length) ? length : 0};
 }
 
-/* Does an entry's domain equal a name? A longer domain is told by the byte behind the name's length. */
+/* Does an entry's domain equal a name? A longer domain is told by the byte after the name's last. */
 static int is_domain(const uint8_t *field, struct slice name)
 {
     if (name.length < DOMAIN_ROOM && field[name.length] != 0)

@@ -150,8 +150,8 @@ fn is_id_field(field: &[u8]) -> bool
     txt::is_id(unfilled_part(field))
 }
 
-// Whether a field holds this domain, ignoring ASCII case. Another length is told first, by the byte where the domain's last one would stand and by the one behind it;
-// the final zeros are looked for only where the bytes before them are the same.
+// Whether a field holds this domain, ignoring ASCII case. Another length is told first, by the byte where the domain's last one would stand and by the one behind it
+// (but for a domain that fills the field); the final zeros are looked for only where the bytes before them are the same.
 fn holds_domain(field: &[u8], domain: &[u8]) -> bool
     ensures { λ r. ⌜ r ≡ sameText (unfilled (now (field .entry))) (now (domain .entry)) ⌝ }
 {

@@ -180,7 +180,7 @@ fewer-differ a b h = go (sameText a b) refl
     go true e = absurd (let p : comparison a b .pairs ≡ length a = ap (λ (c : Comparison). c .pairs) (all-pairs a b e) in omega (arith, h, p))
     go false e = refl
 
--- `compare_pairs`: `unread` bytes of each text are not read yet, and `pairs` pairs are; r is what `is_same_letter` gave of the last that were not
+-- `compare_pairs`: `unread` bytes of each text are not read yet, and `pairs` pairs are; r is what `is_same_letter` gave of the last pair not yet read
 module _ (a b : List ℕ) (pairs unread : ℕ) (l : length a ≡ length b) where
   pub unread-all : unread ≡ length a → sameText (drop unread a) (drop unread b) ≡ true
   unfolding agree

@@ -1,4 +1,4 @@
--- Names and matching at the edges of document 01's rules, by computation.
+-- Names and matching at the edges of document 01's rules, and comparisons with their pairs (document 02, No. 4), by computation.
 use Prim.Native.Char.{code}
 use Prim.Native.Nat.{ℕ}
 use mathlib.Core.Path.{_≡_, refl}

@@ -19,10 +19,10 @@ startsLabel s at = ltb at (length s) && letterOrDigit (getD s at 0)
 unfoldable pub labelEnds : List ℕ → Bool
 labelEnds l = within 1 63 (length l) && not (eqb (getD l 0 0) (code "-")) && not (eqb (getD l (length l - 1) 0) (code "-"))
 
--- n has a dot, and what follows the first is the text `rest`
+-- n has a dot, and what follows the first is the text `rest`, ignoring ASCII case
 unfoldable pub followsDot : List ℕ → List ℕ → Bool
 followsDot rest n = ltb (indexOf (code ".") n) (length n) && sameText rest (afterFirst n)
 
--- what follows the first dot of n is what p has behind `*.`; or, where p begins otherwise, n is p: for a name n, p matches n
+-- what follows the first dot of n is what p has behind `*.`; or, where p begins otherwise, n is p; both ignoring ASCII case: for a name n, p matches n
 unfoldable pub coversName : List ℕ → List ℕ → Bool
 coversName p n = cond (isStarred p) (followsDot (drop 2 p) n) (sameText p n)

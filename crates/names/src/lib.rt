@@ -1,4 +1,4 @@
-// Names, and the patterns that match them.
+// Comparing two texts; names, and the patterns that match them.
 ghost use mathlib.Core.Bool.{true, false, _&&_};
 ghost use mathlib.Core.List.{List};
 ghost use mathlib.Core.Path.{_≡_};
@@ -41,7 +41,8 @@ fn compare_pairs(a: &[u8], b: &[u8]) -> Comparison
     Comparison { equal: true, pairs }
 }
 
-// Compares two texts ignoring ASCII case: their lengths first, then byte pairs from the right. Equal is the same text; that follows from the definition, and is said for the callers.
+// Compares two texts ignoring ASCII case: their lengths first, then byte pairs from the right. That `equal` says whether they are the same text
+// follows from the definition; the contract says it as well, for the proofs of the callers.
 pub fn compare(a: &[u8], b: &[u8]) -> Comparison
     ensures { λ r. ⌜ (r ≡ comparison (now (a .entry)) (now (b .entry))) × (r .equal ≡ sameText (now (a .entry)) (now (b .entry))) ⌝ }
 {
@@ -203,7 +204,7 @@ fn is_label(l: &[u8]) -> bool
     end == l.len()
 }
 
-// Whether n has a dot, and what follows the first equals `rest`.
+// Whether n has a dot, and what follows the first equals `rest`, ignoring ASCII case.
 fn follows_dot(rest: &[u8], n: &[u8]) -> bool
     ensures { λ r. ⌜ r ≡ followsDot (now (rest .entry)) (now (n .entry)) ⌝ }
 {
@@ -270,7 +271,7 @@ pub fn matches(pattern: &[u8], n: &[u8]) -> bool
     }
 }
 
-// Whether the pattern is `*.` and what follows the first dot of n, or begins otherwise and equals n: of a name n, whether the pattern matches it.
+// Whether the pattern is `*.` and what follows the first dot of n, or begins otherwise and equals n, ignoring ASCII case: of a name n, whether the pattern matches it.
 fn covers(pattern: &[u8], n: &[u8]) -> bool
     ensures { λ r. ⌜ r ≡ coversName (now (pattern .entry)) (now (n .entry)) ⌝ }
 {

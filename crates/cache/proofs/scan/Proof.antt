@@ -1,5 +1,5 @@
 -- `cache::scan` meets its contract: a walk of its MIR, by hand, with a loop and calls in it. Each turn looks into the table, lends the domain of one entry for the call of `is_sought`, and shuts
--- the table; where that says so it looks into the table once more, copies the entry out and hands it to `better_at`; and it goes on where `next_at` says. Of the three only the contracts are known.
+-- the table; where that says so it looks into the table once more, copies the entry out and hands it to `better_at`; and it begins where `start_at` says and goes on where `next_at` says. Of the four only the contracts are known.
 -- Assumes nothing.
 use mathlib.Core.Path.{_≡_, refl, sym, ap, subst, _∙_}
 use Prim.Native.Nat.{ℕ, _+_, _-_, _<_, _*_, _^_}
