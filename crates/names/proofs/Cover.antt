@@ -162,6 +162,10 @@ unfolding agree
 same-nothing [] = rw nothing-no-name
 same-nothing (x ∷ a) = and-false (isName (x ∷ a))
 
+-- where n has no dot, nothing follows it, which is no name
+pub nothing-follows : (s n : List ℕ) → length n ≤ indexOf 46 n + 1 → (isName s && sameText s (afterFirst n)) ≡ false
+nothing-follows s n l = rw (drop-of-length-le n l) (same-nothing s)
+
 -- what follows `*.`, against what follows the first dot of a name
 after-same : (s n : List ℕ) → isName n ≡ true → followsDot s n ≡ (isName s && sameText s (afterFirst n))
 unfolding followsDot
@@ -169,9 +173,7 @@ after-same s n h = go (ltb (indexOf 46 n) (length n)) refl
   where
     go : (t : Bool) → ltb (indexOf 46 n) (length n) ≡ t → (t && sameText s (afterFirst n)) ≡ (isName s && sameText s (afterFirst n))
     go true e = name-or-not s (afterFirst n) (name-after n h (ltb-true (indexOf 46 n) (length n) e))
-    go false e =
-        let l : length n ≤ indexOf 46 n + 1 = omega (arith, ltb-false (indexOf 46 n) (length n) e) in
-        rw (drop-of-length-le n l) (sym (same-nothing s))
+    go false e = sym (nothing-follows s n (omega (arith, ltb-false (indexOf 46 n) (length n) e)))
 
 -- a text that begins with a star is no name
 star-no-name : (p : List ℕ) → getD p 0 0 ≡ 42 → isName p ≡ false

@@ -7,7 +7,7 @@ use mathlib.Core.List.{List, _∷_, _++_}
 use mathlib.Core.Logic.{_↔_}
 use native.Mathlib.Omega.{arith}
 use lib.Dec.{eqb, ltb}
-use lib.ListN.{length, getD, take, drop, length-append, take-append-drop, drop-of-length-le}
+use lib.ListN.{length, getD, take, drop, length-append, take-append-drop}
 use lib.Seq.{drop-append-add}
 use borrow.Author.Tests.{ltb-true, ltb-false, le-leb}
 use Rattle.lists.specs.Bytes.{within, all, any}
@@ -20,7 +20,7 @@ use Rattle.lists.proofs.Laws.{drop-next}
 use Rattle.lists.proofs.Split.{split-first, split-after, index-after, index-there}
 use Rattle.lists.proofs.All.{all-lacks}
 use Rattle.names.specs.Name.{labelByte, isLabel, isName, isStarred, isWildcard, afterFirst, matchesName, someMatches}
-use Rattle.names.proofs.Cover.{name-same, rest-same, name-short, name-labels, same-nothing, starred-no-name}
+use Rattle.names.proofs.Cover.{name-same, rest-same, name-short, name-labels, nothing-follows, starred-no-name}
 use Rattle.names.proofs.Name.{dot-outside}
 
 -- a name begins with no star
@@ -87,14 +87,11 @@ module _ (N n : List ℕ) (named : isName N ≡ true) where
   has-dot : sameText N (afterFirst n) ≡ true → indexOf 46 n < length n
   has-dot h = go (ltb (indexOf 46 n) (length n)) refl
     where
-      nothing : length n ≤ indexOf 46 n + 1 → (isName N && sameText N (afterFirst n)) ≡ false
-      nothing l = rw (drop-of-length-le n l) (same-nothing N)
-
       go : (t : Bool) → ltb (indexOf 46 n) (length n) ≡ t → indexOf 46 n < length n
       go true e = ltb-true (indexOf 46 n) (length n) e
       go false e =
           let l : length n ≤ indexOf 46 n + 1 = omega (arith, ltb-false (indexOf 46 n) (length n) e) in
-          never (cc (nothing l))
+          never (cc (nothing-follows N n l))
 
   taken-apart : isName n ≡ true → sameText N (afterFirst n) ≡ true → OneLabelBefore N n
   unfolding all

@@ -46,9 +46,9 @@ read-past (x ∷ a) [] c d h = never cc
 read-past (x ∷ a) (y ∷ b) c d h =
     rw (and-left (sameLetter x y) (sameText a b) h, read-past a b c d (and-right (sameLetter x y) (sameText a b) h)) (omega arith)
 
--- a text from the right: what stands behind a place, the byte there, and what stands before it
-from-right : (a : List ℕ) (i : ℕ) → i < length a → reverse a ≡ reverse (drop (i + 1) a) ++ (getD a i 0 ∷ reverse (take i a))
-from-right a i h =
+-- a text reversed: what stands behind a place, the byte there, and what stands before it
+reversed-at : (a : List ℕ) (i : ℕ) → i < length a → reverse a ≡ reverse (drop (i + 1) a) ++ (getD a i 0 ∷ reverse (take i a))
+reversed-at a i h =
     let s : a ≡ take i a ++ (getD a i 0 ∷ drop (i + 1) a) = sym (take-append-drop i a) ∙ ap (λ (r : List ℕ). take i a ++ r) (drop-next a i h) in
     ap reverse s ∙ (reverse-append (take i a) (getD a i 0 ∷ drop (i + 1) a) ∙ (ap (λ (r : List ℕ). r ++ reverse (take i a)) (reverse-cons (getD a i 0) (drop (i + 1) a)) ∙ append-assoc (reverse (drop (i + 1) a)) (getD a i 0 ∷ []) (reverse (take i a))))
 
@@ -57,9 +57,10 @@ pub unequal-lengths : (a b : List ℕ) → (length a ≡ length b → ⊥) → c
 unfolding comparison
 unequal-lengths a b h = rw (ne-eqb (length a) (length b) h)
 
-from-the-right : (a b : List ℕ) → length a ≡ length b → comparison a b ≡ record { equal = sameText (reverse a) (reverse b); pairs = pairsRead (reverse a) (reverse b) }
+-- what the definition says of texts of one length
+read-from-the-right : (a b : List ℕ) → length a ≡ length b → comparison a b ≡ record { equal = sameText (reverse a) (reverse b); pairs = pairsRead (reverse a) (reverse b) }
 unfolding comparison
-from-the-right a b l = rw (eq-eqb (length a) (length b) l)
+read-from-the-right a b l = rw (eq-eqb (length a) (length b) l)
 
 read-all : (a b : List ℕ) → sameText a b ≡ true → pairsRead a b ≡ length a
 unfolding pairsRead
@@ -73,7 +74,7 @@ pub all-pairs : (a b : List ℕ) → sameText a b ≡ true → comparison a b �
 all-pairs a b h =
     let l : length a ≡ length b = agree-lengths sameLetter a b h in
     let r : sameText (reverse a) (reverse b) ≡ true = same-reversed a b l ∙ h in
-    from-the-right a b l ∙ rw (r, read-all (reverse a) (reverse b) r, length-reverse a)
+    read-from-the-right a b l ∙ rw (r, read-all (reverse a) (reverse b) r, length-reverse a)
 
 -- two texts of one length, and the place of the last pair that differs, ignoring ASCII case
 pub record LastDifference (a b : List ℕ) : Type 0 where
@@ -111,17 +112,17 @@ module _ (a b : List ℕ) (d : LastDifference a b) where
 
   not-same : sameText (reverse a) (reverse b) ≡ false
   unfolding agree
-  not-same = rw (from-right a i (d .inside), from-right b i inside-b, same-joined after-a after-b rest-a rest-b (reversed-lengths (drop (i + 1) a) (drop (i + 1) b) after-lengths), after-same, d .differs) refl
+  not-same = rw (reversed-at a i (d .inside), reversed-at b i inside-b, same-joined after-a after-b rest-a rest-b (reversed-lengths (drop (i + 1) a) (drop (i + 1) b) after-lengths), after-same, d .differs) refl
 
   read-to : pairsRead (reverse a) (reverse b) ≡ length a - i
   unfolding pairsRead
   read-to =
       let n : length after-a ≡ length a - (i + 1) = length-reverse (drop (i + 1) a) ∙ length-drop (i + 1) a in
-      rw (from-right a i (d .inside), from-right b i inside-b, read-past after-a after-b rest-a rest-b after-same, d .differs) (omega (arith, n, d .inside))
+      rw (reversed-at a i (d .inside), reversed-at b i inside-b, read-past after-a after-b rest-a rest-b after-same, d .differs) (omega (arith, n, d .inside))
 
   -- Of other texts of one length, the pairs are read from the right up to and with the first that differs.
   pub to-the-difference : comparison a b ≡ record { equal = false; pairs = length a - d .place }
-  to-the-difference = from-the-right a b (d .one-length) ∙ rw (not-same, read-to)
+  to-the-difference = read-from-the-right a b (d .one-length) ∙ rw (not-same, read-to)
 
 -- Any two texts are of one of these three kinds.
 pub three-kinds : (a b : List ℕ) → (length a ≡ length b → ⊥) ⊎ ((sameText a b ≡ true) ⊎ LastDifference a b)
@@ -146,7 +147,7 @@ equal-is-same a b = go (eqb (length a) (length b)) refl
     go : (t : Bool) → eqb (length a) (length b) ≡ t → comparison a b .equal ≡ sameText a b
     go true e =
         let l : length a ≡ length b = eqb-true (length a) (length b) e in
-        ap (λ (c : Comparison). c .equal) (from-the-right a b l) ∙ same-reversed a b l
+        ap (λ (c : Comparison). c .equal) (read-from-the-right a b l) ∙ same-reversed a b l
     go false e =
         let n : length a ≡ length b → ⊥ = eqb-false (length a) (length b) e in
         ap (λ (c : Comparison). c .equal) (unequal-lengths a b n) ∙ agree-length sameLetter a b n
@@ -169,7 +170,7 @@ at-most-all a b = go (eqb (length a) (length b)) refl
     go true e =
         let l : length a ≡ length b = eqb-true (length a) (length b) e in
         let m : pairsRead (reverse a) (reverse b) ≤ length a = rw (length-reverse a) at (read-most (reverse a) (reverse b)) in
-        rw (from-the-right a b l) (m, omega (arith, m, l))
+        rw (read-from-the-right a b l) (m, omega (arith, m, l))
     go false e = rw (unequal-lengths a b (eqb-false (length a) (length b) e)) (omega arith, omega arith)
 
 -- Fewer are read only where the texts differ.

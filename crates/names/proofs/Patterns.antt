@@ -5,7 +5,7 @@ use mathlib.Core.Bool.{Bool, true, false, cond, _&&_, _||_, and-true, and-false}
 use mathlib.Core.List.{List, [], _∷_}
 use native.Mathlib.Omega.{arith}
 use lib.Dec.{eqb, leb, ltb}
-use lib.ListN.{length, getD, take, drop, length-drop, drop-of-length-le}
+use lib.ListN.{length, getD, take, drop, length-drop}
 use lib.Seq.{take-length}
 use borrow.Author.Needs.{needs}
 use borrow.Author.Tests.{not-true, not-false, le-leb, lt-leb, leb-true, leb-false, ltb-true, ltb-false, eq-eqb, ne-eqb}
@@ -21,7 +21,7 @@ use Rattle.lists.proofs.Split.{split-first}
 use Rattle.names.specs.declared.Pattern.{Pattern}
 use Rattle.names.specs.Name.{labelByte, isLabel, isName, isStarred, isWildcard, isPattern, afterFirst, matchesName, patternFor}
 use Rattle.names.specs.Scan.{labelEnds, followsDot}
-use Rattle.names.proofs.Cover.{name-same, name-labels, same-nothing, starred-no-name}
+use Rattle.names.proofs.Cover.{name-same, name-labels, nothing-follows, starred-no-name}
 use Rattle.names.proofs.Match.{starred-long}
 
 -- `is_label`: v is what `has_label_ends` gave, e what `label_from` gave
@@ -64,9 +64,8 @@ module _ (rest n : List ℕ) (named : isName rest ≡ true) (q : Bool) (gave : q
       go : (t : Bool) → ltb (indexOf 46 n) (length n) ≡ t → (t && sameText rest (afterFirst n)) ≡ false → false ≡ (isName n && sameText rest (afterFirst n))
       go true e h = sym (rw h (and-false (isName n)))
       go false e h =
-          let l : length n ≤ indexOf 46 n + 1 = omega (arith, ltb-false (indexOf 46 n) (length n) e) in
-          let k : sameText rest [] ≡ false = rw named at (same-nothing rest) in
-          sym (rw (drop-of-length-le n l, k) (and-false (isName n)))
+          let k : sameText rest (afterFirst n) ≡ false = rw named at (nothing-follows rest n (omega (arith, ltb-false (indexOf 46 n) (length n) e))) in
+          sym (rw k (and-false (isName n)))
 
   pub under-long : 253 < length n → false ≡ (isName n && sameText rest (afterFirst n))
   unfolding isName
@@ -84,14 +83,14 @@ module _ (rest n : List ℕ) (named : isName rest ≡ true) (q : Bool) (gave : q
     same : sameText rest (afterFirst n) ≡ true
     same = and-right (ltb (indexOf 46 n) (length n)) (sameText rest (afterFirst n)) both
 
-    dot-is : length n - length rest - 1 ≡ indexOf 46 n
-    dot-is = omega (arith, inside, agree-lengths sameLetter rest (afterFirst n) same, length-drop (indexOf 46 n + 1) n)
+    whole : indexOf 46 n + 1 + length rest ≡ length n
+    whole = omega (arith, inside, agree-lengths sameLetter rest (afterFirst n) same, length-drop (indexOf 46 n + 1) n)
 
     pub under-shorter : length rest ≤ length n
-    under-shorter = omega (arith, inside, agree-lengths sameLetter rest (afterFirst n) same, length-drop (indexOf 46 n + 1) n)
+    under-shorter = omega (arith, whole)
 
     pub under-room : 1 ≤ length n - length rest
-    under-room = omega (arith, inside, agree-lengths sameLetter rest (afterFirst n) same, length-drop (indexOf 46 n + 1) n)
+    under-room = omega (arith, whole)
 
     pub under-label : length n ≤ 253 → (r : Bool) → r ≡ isLabel (take (length n - length rest - 1 - 0) (drop 0 n)) → r ≡ (isName n && sameText rest (afterFirst n))
     unfolding isName all
@@ -99,7 +98,7 @@ module _ (rest n : List ℕ) (named : isName rest ≡ true) (q : Bool) (gave : q
         let o : suc (indexOf 46 n) ≡ indexOf 46 n + 1 = omega arith in
         let p : split 46 n ≡ take (indexOf 46 n) n ∷ split 46 (afterFirst n) = rw (← o) (split-first 46 n inside) in
         let w : all isLabel (split 46 (afterFirst n)) ≡ true = name-labels (afterFirst n) (sym (name-same rest (afterFirst n) same) ∙ named) in
-        let d : length n - length rest - 1 - 0 ≡ indexOf 46 n = omega (arith, dot-is) in
+        let d : length n - length rest - 1 - 0 ≡ indexOf 46 n = omega (arith, whole) in
         let g : r ≡ isLabel (take (indexOf 46 n) n) = rw d at e in
         simp (same, p, w, le-leb 1 (length n) (omega (arith, inside)), le-leb (length n) 253 k, and-true) g
 
