@@ -48,11 +48,13 @@ archive: toolchain
 # The example programs.
 examples: archive
 	@$(CC) $(CFLAGS) $(WARNINGS) -Iinclude examples/discover.c $(ARCHIVE) -o $(OUT)/discover
+	@$(CC) $(CFLAGS) $(WARNINGS) -Iinclude examples/publish.c $(ARCHIVE) -o $(OUT)/publish
 	@$(CC) $(CFLAGS) $(WARNINGS) -Iinclude examples/relay.c examples/scenario.c $(ARCHIVE) -o $(OUT)/relay
 
 run: examples
 	@echo; $(OUT)/discover examples/domain/records.txt examples/domain/policy.txt
 	@echo; $(OUT)/discover examples/domain/records.txt examples/domain/wrong-policy.txt || [ $$? -eq 1 ]
+	@echo; $(OUT)/publish --id 20160831085700Z enforce 604800 mail.example.com '*.example.net' backupmx.example.com
 	@echo; $(OUT)/relay examples/scenarios/*.txt
 
 # The proofs, the must-fail edits and the cases first, since the archive is then built of what they proved; then the tests in C
@@ -77,6 +79,8 @@ c-tests: examples
 	$(OUT)/boundary
 	@$(CC) $(CFLAGS) $(WARNINGS) $(SANITIZERS) -Iinclude tests/cache.c $(ARCHIVE) -o $(OUT)/cache
 	$(OUT)/cache
+	@$(CC) $(CFLAGS) $(WARNINGS) $(SANITIZERS) -Iinclude tests/publish.c $(ARCHIVE) -o $(OUT)/publishing
+	$(OUT)/publishing
 	@if pkg-config --exists 'openssl >= 3'; then echo $(OUT)/openssl; \
 	    $(CC) $(CFLAGS) $(WARNINGS) $(SANITIZERS) -Iinclude tests/openssl.c examples/openssl.c $(ARCHIVE) \
 	        $$(pkg-config --cflags --libs openssl) -o $(OUT)/openssl && $(OUT)/openssl; \

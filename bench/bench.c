@@ -27,6 +27,10 @@ static const struct promise {
      "domains and ids are filled up with zeros, which plain C reads with the C library's `memchr` and `memcmp`, chosen by the processor; the archive calls neither"},
     {CACHE, lookup_of_none, 1.6, "the lookup that finds none of 64 domains of many lengths",
      "for an entry with a longer domain plain C tests one byte and goes on, 8 instructions; the library's pass also tests which entries it looks for and whether its search is over, 13"},
+    {PUBLISHING, NULL, 1.7, "publishing",
+     "a pattern's letters take 10 instructions each, and 6 in plain C; short texts are copied byte by byte, in plain C by the C library's `memcpy`. A policy is written when it changes, not for a message"},
+    {PUBLISHING, measured_rewriting, 2.0, "a policy written anew into an output of just its length",
+     "the mx lines are measured first, in a pass of their own; an output of `TWEEDSTORK_WRITE_POLICY_ROOM` bytes needs none"},
     {DNS_IDS, NULL, 1.3, "DNS-IDs as long as the host's name",
      "that the host is a name is tested once more where a DNS-ID equals it, and its first label where a pattern with a star matches it: each crate promises its answer for every text"},
     {OTHER_DNS_IDS, NULL, 1.3, "DNS-IDs of another length", "held against two references, a name takes 52 instructions, plain C's 47, since the library clips it at the end of the bytes once more; the rest of the call takes 1,135 and 1,025"},
@@ -55,6 +59,7 @@ static const struct {
 } tables[TABLES] = {
     [CALLS] = {"## Single calls", "Input"},
     [CACHE] = {"## Single calls for a policy cache (alike: domains of one length that differ in their 5th and 6th byte alone)", "Cache"},
+    [PUBLISHING] = {"## Single calls for publishing", "Publishing"},
     [DECISIONS] = {"## Whole decisions: every call, from the first question to the verdict", "Decision"},
     [LAST_RECORD_MATCHES] = {"### TLSA records 2 1 1, 8 certificates, the last record matches the last certificate", "Records, the last matches"},
     [NO_RECORD_MATCHES] = {"### TLSA records 2 1 1, 8 certificates, none matches", "Records, none matches"},
@@ -283,10 +288,11 @@ static void print_stack(const struct results *r)
 {
     static const char *const names[] = {[READ_TXT] = "tweedstork_read_txt", [READ_POLICY] = "tweedstork_read_policy",
         [CACHE_STORE] = "tweedstork_cache_store", [CACHE_LOOKUP] = "tweedstork_cache_lookup",
-        [JUDGE_HOST] = "tweedstork_judge_host", [NEXT_HOST] = "tweedstork_next_host"};
+        [JUDGE_HOST] = "tweedstork_judge_host", [NEXT_HOST] = "tweedstork_next_host",
+        [WRITE_TXT] = "tweedstork_write_txt", [WRITE_POLICY] = "tweedstork_write_policy", [REWRITE_POLICY] = "tweedstork_rewrite_policy"};
 
     printf("\n## Stack of the library's calls\n\n| Call | most bytes of stack on any of these inputs |\n|---|--:|\n");
-    for (size_t call = READ_TXT; call <= NEXT_HOST; call++) {
+    for (size_t call = READ_TXT; call <= REWRITE_POLICY; call++) {
         printf("| `%s` |", names[call]);
         print_cell((double)most_stack(r, (enum call)call));
         printf("\n");
@@ -337,6 +343,7 @@ static void print_results(const struct results *r)
     print_promises(r);
     print_table(r, CALLS);
     print_table(r, CACHE);
+    print_table(r, PUBLISHING);
     print_table(r, DECISIONS);
     print_decisions(r);
     printf("\n## Growth\n");

@@ -8,9 +8,12 @@
 #include "plain.h"
 
 const struct implementation implementations[IMPLEMENTATIONS] = {
-    {"library", tweedstork_read_txt, tweedstork_read_policy, tweedstork_cache_store, tweedstork_cache_lookup, tweedstork_judge_host, tweedstork_next_host},
-    {"C", plain_read_txt, plain_read_policy, plain_cache_store, plain_cache_lookup, plain_judge_host, plain_next_host},
-    {"Rust", independent_read_txt, independent_read_policy, independent_cache_store, independent_cache_lookup, independent_judge_host, independent_next_host},
+    {"library", tweedstork_read_txt, tweedstork_read_policy, tweedstork_cache_store, tweedstork_cache_lookup, tweedstork_judge_host, tweedstork_next_host,
+     tweedstork_write_txt, tweedstork_write_policy, tweedstork_rewrite_policy},
+    {"C", plain_read_txt, plain_read_policy, plain_cache_store, plain_cache_lookup, plain_judge_host, plain_next_host,
+     plain_write_txt, plain_write_policy, plain_rewrite_policy},
+    {"Rust", independent_read_txt, independent_read_policy, independent_cache_store, independent_cache_lookup, independent_judge_host, independent_next_host,
+     independent_write_txt, independent_write_policy, independent_rewrite_policy},
 };
 
 static struct answer call_judge_host(const struct implementation *implementation, const struct facts *f)
@@ -53,6 +56,21 @@ __attribute__((noinline)) static struct answer call_cache_lookup(const struct im
     return (struct answer){{a.number}};
 }
 
+/* What the call before wrote stays: none of the three reads its output. Not inlined, as above: their arguments are many. */
+__attribute__((noinline)) static struct answer call_publishing(const struct implementation *implementation, const struct input *input)
+{
+    struct bytes first = input->first, second = input->second, output = input->output;
+    struct tweedstork_write_answer a;
+
+    if (input->call == WRITE_TXT)
+        a = implementation->write_txt(first.at, first.length, output.at, output.length);
+    else if (input->call == WRITE_POLICY)
+        a = implementation->write_policy(input->mode, input->lifetime, first.at, first.length, second.at, second.length, output.at, output.length);
+    else
+        a = implementation->rewrite_policy(first.at, first.length, output.at, output.length);
+    return (struct answer){{a.number, a.length}};
+}
+
 struct answer make_call(const struct implementation *implementation, const struct input *input, size_t step)
 {
     struct bytes first = input->first, second = input->second, output = input->output;
@@ -74,6 +92,10 @@ struct answer make_call(const struct implementation *implementation, const struc
         return call_cache_store(implementation, &input->cache);
     case CACHE_LOOKUP:
         return call_cache_lookup(implementation, &input->cache, output);
+    case WRITE_TXT:
+    case WRITE_POLICY:
+    case REWRITE_POLICY:
+        return call_publishing(implementation, input);
     case JUDGE_HOST:
         break;
     }

@@ -13,6 +13,9 @@ struct implementation {
     __typeof__(tweedstork_cache_lookup) *cache_lookup;
     __typeof__(tweedstork_judge_host) *judge_host;
     __typeof__(tweedstork_next_host) *next_host;
+    __typeof__(tweedstork_write_txt) *write_txt;
+    __typeof__(tweedstork_write_policy) *write_policy;
+    __typeof__(tweedstork_rewrite_policy) *rewrite_policy;
 };
 
 enum { LIBRARY, PLAIN_C, RUST, IMPLEMENTATIONS };

@@ -72,10 +72,16 @@ static struct bytes repeated(struct bytes head, struct bytes piece, size_t count
 {
     struct bytes b = room(head.length + count * piece.length);
 
-    memcpy(b.at, head.at, head.length);
+    if (head.length != 0)
+        memcpy(b.at, head.at, head.length);
     for (size_t i = 0; i < count; i++)
         memcpy(b.at + head.length + i * piece.length, piece.at, piece.length);
     return b;
+}
+
+static struct bytes joined(struct bytes a, struct bytes b)
+{
+    return repeated(a, b, 1);
 }
 
 /* ---- the list of inputs ---- */
@@ -185,14 +191,16 @@ static void add_refused_policies(struct inputs *inputs)
     spoil_last_line(input, '.', HEAD_LINES + input->expected[0].fields[3], TWEEDSTORK_POLICY_BAD_MX);
 }
 
+static const char short_fields[] = "a:b\nc:de\nf:ghi\nj:klmn\no:pqrst\n";
+
 /* Policies of 4 KB with little to read at a time: values of 1 to 5 letters, and labels of one. */
 static void add_short_policies(struct inputs *inputs)
 {
-    static const char fields[] = "a:b\nc:de\nf:ghi\nj:klmn\no:pqrst\n", names[] = "mx: a.b\nmx: *.c.d.e\nmx: f.g.h.i.j.k.l.m\n";
+    static const char names[] = "mx: a.b\nmx: *.c.d.e\nmx: f.g.h.i.j.k.l.m\n";
     enum { FIELD_PIECES = 134, NAME_PIECES = 100 };
     struct input *input = add(inputs, CALLS, READ_POLICY, "policy of 4 KB, 670 further fields of 4 to 8 bytes");
 
-    input->first = repeated(text(small_policy), text(fields), FIELD_PIECES);
+    input->first = repeated(text(small_policy), text(short_fields), FIELD_PIECES);
     expect(input, 0, TWEEDSTORK_POLICY_ACCEPTED, TWEEDSTORK_ENFORCE, MAX_AGE, 1);
     input = add(inputs, CALLS, READ_POLICY, "policy of 4 KB, 300 mx lines with labels of one letter");
     input->first = repeated(text(policy_head), text(names), NAME_PIECES);
@@ -445,6 +453,153 @@ static void add_txt(struct inputs *inputs)
         struct bytes record = long_record(size < 65000 ? size : 65000);
         make_txt(add_counted(inputs, TXT_BYTES, READ_TXT, record.length), &record, 1);
     }
+}
+
+/* ---- publishing ---- */
+
+static const char rfc_policy[] =
+    "version: STSv1\nmode: enforce\nmx: mail.example.com\nmx: *.example.net\nmx: backupmx.example.com\nmax_age: 604800\n";
+static const char crlf_policy[] =
+    "version: STSv1\r\nmode: enforce\r\nmx: mail.example.com\r\nmx: *.example.net\r\nmx: backupmx.example.com\r\nmax_age: 604800\r\n"
+    "contact: the mail team of example.com\r\n";
+enum { MOST_PATTERNS = 16, LONGEST_PATTERN = 255, LONGEST_LABEL = 63, LONGEST_LIFETIME = 31557600 };
+
+/* This is written, into an output of that length. The dots behind it have to stay. */
+static void expect_written(struct input *input, struct bytes written, size_t length)
+{
+    input->output = room(length);
+    input->text = repeated(written, text("."), length - written.length);
+    expect(input, 0, TWEEDSTORK_DONE, written.length, 0, 0);
+}
+
+/* Nothing is written into an output of that length. */
+static void expect_unwritten(struct input *input, uint64_t refusal, size_t length)
+{
+    input->output = room(length);
+    input->text = repeated(room(0), text("."), length);
+    expect(input, 0, refusal, 0, 0, 0);
+}
+
+static void add_written_txt(struct inputs *inputs)
+{
+    struct bytes written = text(rfc_record);
+    struct input *input = add(inputs, PUBLISHING, WRITE_TXT, "write TXT, id of 15 bytes (RFC 8461)");
+
+    input->first = part(written, ID_START, ID_LENGTH);
+    expect_written(input, written, TWEEDSTORK_WRITE_TXT_ROOM);
+    input = add(inputs, PUBLISHING, WRITE_TXT, "write TXT, id of 32 bytes");
+    written = text("v=STSv1; id=0123456789abcdefghijklmnopqrstUV;");
+    input->first = part(written, ID_START, 32);
+    expect_written(input, written, TWEEDSTORK_WRITE_TXT_ROOM);
+    input = add(inputs, PUBLISHING, WRITE_TXT, "write TXT, id of 32 bytes, refused at the last");
+    input->first = text("0123456789abcdefghijklmnopqrstU-");
+    expect_unwritten(input, TWEEDSTORK_BAD_ID, TWEEDSTORK_WRITE_TXT_ROOM);
+}
+
+/* A star, a dot and a name of labels with 63 letters. */
+static struct bytes longest_pattern(uint8_t letter)
+{
+    struct bytes pattern = room(LONGEST_PATTERN);
+
+    memset(pattern.at, letter, pattern.length);
+    pattern.at[0] = '*';
+    for (size_t dot = 1; dot < pattern.length; dot += 1 + LONGEST_LABEL)
+        pattern.at[dot] = '.';
+    return pattern;
+}
+
+/* Gives write_policy these patterns. */
+static void give_patterns(struct input *input, uint64_t mode, uint64_t lifetime, const struct bytes *patterns, size_t count)
+{
+    input->mode = mode;
+    input->lifetime = lifetime;
+    input->second = room(4 * count);
+    for (size_t i = 0; i < count; i++) {
+        input->first = joined(input->first, patterns[i]);
+        put_number(input->second, i, patterns[i].length);
+    }
+}
+
+static struct input *add_longest_policy(struct inputs *inputs, const char *name, const struct bytes patterns[MOST_PATTERNS])
+{
+    struct input *input = add(inputs, PUBLISHING, WRITE_POLICY, name);
+
+    give_patterns(input, TWEEDSTORK_ENFORCE, LONGEST_LIFETIME, patterns, MOST_PATTERNS);
+    return input;
+}
+
+static void add_longest_policies(struct inputs *inputs)
+{
+    struct bytes patterns[MOST_PATTERNS], written = text("version: STSv1\nmode: enforce\n");
+
+    for (size_t i = 0; i < MOST_PATTERNS; i++) {
+        patterns[i] = longest_pattern((uint8_t)('a' + i));
+        written = joined(joined(joined(written, text("mx: ")), patterns[i]), text("\n"));
+    }
+    written = joined(written, text("max_age: 31557600\n"));
+    expect_written(add_longest_policy(inputs, "write policy, 16 patterns of 255 bytes", patterns), written, TWEEDSTORK_WRITE_POLICY_ROOM);
+    struct input *input = add_longest_policy(inputs, "write policy, 16 patterns of 255 bytes, refused at the last byte", patterns);
+    input->first.at[input->first.length - 1] = '-';
+    expect_unwritten(input, TWEEDSTORK_BAD_PATTERNS, written.length);
+    input = add_longest_policy(inputs, "write policy, 16 patterns of 255 bytes, output a byte too short", patterns);
+    expect_unwritten(input, TWEEDSTORK_OUTPUT_SHORT, written.length - 1);
+}
+
+static void add_written_policies(struct inputs *inputs)
+{
+    const struct bytes patterns[] = {text("mail.example.com"), text("*.example.net"), text("backupmx.example.com")};
+    struct input *input = add(inputs, PUBLISHING, WRITE_POLICY, "write policy, no pattern, mode none");
+
+    give_patterns(input, TWEEDSTORK_NONE, MAX_AGE, NULL, 0);
+    expect_written(input, text("version: STSv1\nmode: none\nmax_age: 604800\n"), TWEEDSTORK_WRITE_POLICY_ROOM);
+    input = add(inputs, PUBLISHING, WRITE_POLICY, "write policy, 3 patterns of 13 to 20 bytes (RFC 8461)");
+    give_patterns(input, TWEEDSTORK_ENFORCE, MAX_AGE, patterns, sizeof patterns / sizeof patterns[0]);
+    expect_written(input, text(rfc_policy), TWEEDSTORK_WRITE_POLICY_ROOM);
+    add_longest_policies(inputs);
+}
+
+/* A policy with mx lines, before each of which these further fields stand so many times, and its rewriting: into an output that is
+   always enough, or of just the length that it takes. */
+static void add_mx_rewriting(struct inputs *inputs, const char *name, const char *fields, size_t times, int is_exact)
+{
+    struct input *input = add(inputs, PUBLISHING, REWRITE_POLICY, name);
+    struct bytes line = room(MX_LINE), written = text("version: STSv1\nmode: enforce\n");
+
+    input->first = text(policy_head);
+    for (size_t i = 0; i < MOST_PATTERNS; i++) {
+        put_mx_line(line, i);
+        written = joined(written, line);
+        input->first = joined(repeated(input->first, text(fields), times), line);
+    }
+    written = joined(written, text("max_age: 604800\n"));
+    expect_written(input, written, is_exact ? written.length : TWEEDSTORK_WRITE_POLICY_ROOM);
+}
+
+const char measured_rewriting[] = "rewrite policy, 16 patterns of 19 bytes, output of just its length";
+
+static void add_rewritten_policies(struct inputs *inputs)
+{
+    struct input *input = add(inputs, PUBLISHING, REWRITE_POLICY, "rewrite policy, 3 patterns (RFC 8461), CRLF, a further field");
+
+    input->first = text(crlf_policy);
+    expect_written(input, text(rfc_policy), TWEEDSTORK_WRITE_POLICY_ROOM);
+    add_mx_rewriting(inputs, "rewrite policy, 16 patterns of 19 bytes", "", 0, 0);
+    add_mx_rewriting(inputs, measured_rewriting, "", 0, 1);
+    add_mx_rewriting(inputs, "rewrite policy, 64 KB, 16 patterns, 10,800 further fields of 4 to 8 bytes", short_fields, 135, 0);
+    input = add(inputs, PUBLISHING, REWRITE_POLICY, "rewrite policy, 64 KiB, mx lines, refused as over 16");
+    make_mx_policy(input, 65536);
+    expect_unwritten(input, TWEEDSTORK_BAD_PATTERNS, TWEEDSTORK_WRITE_POLICY_ROOM);
+    input = add(inputs, PUBLISHING, REWRITE_POLICY, "rewrite policy, 4 lines, 63 bytes, refused at the last line");
+    input->first = text(small_policy);
+    spoil_last_line(input, 's', 4, TWEEDSTORK_POLICY_BAD_MAX_AGE);
+    expect_unwritten(input, TWEEDSTORK_POLICY_BAD_MAX_AGE, TWEEDSTORK_WRITE_POLICY_ROOM);
+}
+
+static void add_publishing(struct inputs *inputs)
+{
+    add_written_txt(inputs);
+    add_written_policies(inputs);
+    add_rewritten_policies(inputs);
 }
 
 /* ---- hosts ---- */
@@ -713,6 +868,7 @@ struct inputs *build_inputs(void)
     add_policies(inputs);
     add_caches(inputs);
     add_txt(inputs);
+    add_publishing(inputs);
     add_single_hosts(inputs);
     add_decisions(inputs);
     add_record_series(inputs);

@@ -55,20 +55,23 @@ struct answer {
     uint64_t fields[ANSWER_FIELDS];
 };
 
-enum call { READ_TXT, READ_POLICY, CACHE_STORE, CACHE_LOOKUP, JUDGE_HOST, NEXT_HOST };
+enum call { READ_TXT, READ_POLICY, CACHE_STORE, CACHE_LOOKUP, JUDGE_HOST, NEXT_HOST, WRITE_TXT, WRITE_POLICY, REWRITE_POLICY };
 
 /* The tables that the results are shown in. From LAST_RECORD_MATCHES on each is a series that shows growth. */
-enum table { CALLS, CACHE, DECISIONS, LAST_RECORD_MATCHES, NO_RECORD_MATCHES, CERTIFICATES, POLICY_BYTES, TXT_BYTES, DNS_IDS, OTHER_DNS_IDS, HOSTS, TABLES };
+enum table {
+    CALLS, CACHE, PUBLISHING, DECISIONS, LAST_RECORD_MATCHES, NO_RECORD_MATCHES, CERTIFICATES, POLICY_BYTES, TXT_BYTES, DNS_IDS, OTHER_DNS_IDS, HOSTS, TABLES
+};
 
-enum { MAX_STEPS = 5, MAX_INPUTS = 96 };
+enum { MAX_STEPS = 5, MAX_INPUTS = 104 };
 
 /* One call, or the calls of a decision on a host, with what must be answered. */
 struct input {
     enum table table;
     char name[96];
     enum call call;
-    struct bytes first, second; /* rdatas and lengths; body; preferences and verdicts */
-    struct bytes output, text;  /* of read_txt: lent memory, of cache_lookup: where its whole answer goes; and what must stand there afterwards */
+    struct bytes first, second; /* rdatas and lengths; body; preferences and verdicts; id; patterns and their lengths */
+    uint64_t mode, lifetime;    /* of write_policy */
+    struct bytes output, text;  /* of cache_lookup: where its whole answer goes, else lent memory; and what must stand there afterwards */
     struct cache_call cache;
     size_t steps;
     struct facts facts[MAX_STEPS];
@@ -84,7 +87,7 @@ struct inputs {
 struct inputs *build_inputs(void);
 
 /* The names of inputs with a promise of their own. */
-extern const char lookup_of_none[], mta_sts_decision[], whole_certificate_decision[];
+extern const char lookup_of_none[], measured_rewriting[], mta_sts_decision[], whole_certificate_decision[];
 
 /* The first input of a table. */
 const struct input *first_input(const struct inputs *inputs, enum table table);

@@ -99,7 +99,7 @@ static int is_name(struct slice s)
     return 0;
 }
 
-static int is_pattern(struct slice s)
+static inline int is_pattern(struct slice s)
 {
     if (s.length > 2 && s.at[0] == '*' && s.at[1] == '.')
         return is_name((struct slice){s.at + 2, s.length - 2});
@@ -295,7 +295,7 @@ struct tweedstork_txt_answer plain_read_txt(
 
 /* ---- policies ---- */
 
-enum { POLICY_LIMIT = 65536, LIFETIME_LIMIT = 31557600 };
+enum { POLICY_LIMIT = 65536, LIFETIME_LIMIT = 31557600, PATTERNS_LIMIT = 16 /* of a policy that is written */ };
 
 struct policy {
     uint64_t mode;          /* zero: not read yet */
@@ -375,11 +375,13 @@ static int read_max_age(struct slice value, uint64_t *lifetime)
     return 1;
 }
 
-/* Takes in a field; host may be NULL. Of version, mode and max_age the first counts. Zero, or the refusal. */
-static uint64_t take_field(struct policy *policy, struct slice name, struct slice value, const struct reference *host)
+/* Takes in a field; host and patterns may be NULL. Of version, mode and max_age the first counts. Zero, or the refusal. */
+static uint64_t take_field(struct policy *policy, struct slice name, struct slice value, const struct reference *host, struct slice *patterns)
 {
     if (IS(name, "mx")) {
-        policy->mx_count++;
+        uint64_t i = policy->mx_count++;
+        if (patterns != NULL && i < PATTERNS_LIMIT)
+            patterns[i] = value;
         if (host != NULL && !policy->covers_host)
             policy->covers_host = covers(value, host);
         return is_pattern(value) ? 0 : TWEEDSTORK_POLICY_BAD_MX;
@@ -398,17 +400,20 @@ static uint64_t take_field(struct policy *policy, struct slice name, struct slic
 }
 
 /* Reads a line and takes in its field. Zero, or the refusal: its form comes before its content. */
-static uint64_t read_policy_line(struct reader *r, const struct reference *host, struct policy *policy)
+static uint64_t read_policy_line(struct reader *r, const struct reference *host, struct slice *patterns, struct policy *policy)
 {
     struct slice name, value;
 
     if (!read_field_name(r, ':', &name) || !read_policy_value(r, &value) || !read_line_end(r))
         return TWEEDSTORK_POLICY_BAD_LINE;
-    return take_field(policy, name, value, host);
+    return take_field(policy, name, value, host, patterns);
 }
 
-/* TWEEDSTORK_POLICY_ACCEPTED, or the refusal. */
-static uint64_t parse_policy(struct slice body, const struct reference *host, struct policy *policy)
+/*
+ * TWEEDSTORK_POLICY_ACCEPTED, or the refusal. The host that the patterns are held against may be NULL, and so may the room that
+ * the first PATTERNS_LIMIT of them are noted in.
+ */
+static uint64_t parse_policy(struct slice body, const struct reference *host, struct slice *patterns, struct policy *policy)
 {
     *policy = (struct policy){0, 0, 0, 0, 0, 0, 0, 0};
     if (body.length > POLICY_LIMIT)
@@ -421,7 +426,7 @@ static uint64_t parse_policy(struct slice body, const struct reference *host, st
     uint64_t line = 0;
     do {
         const uint8_t *start = r.at;
-        uint64_t refusal = read_policy_line(&r, host, policy);
+        uint64_t refusal = read_policy_line(&r, host, patterns, policy);
         line++;
         if (refusal != 0) {
             policy->line = line;
@@ -437,7 +442,7 @@ static uint64_t parse_policy(struct slice body, const struct reference *host, st
 struct tweedstork_policy_answer plain_read_policy(const uint8_t *body, size_t body_length)
 {
     struct policy policy;
-    uint64_t number = parse_policy((struct slice){body, body_length}, NULL, &policy);
+    uint64_t number = parse_policy((struct slice){body, body_length}, NULL, NULL, &policy);
 
     if (number != TWEEDSTORK_POLICY_ACCEPTED)
         return (struct tweedstork_policy_answer){number, 0, 0, 0, policy.line, policy.offset};
@@ -503,7 +508,7 @@ static int read_entry(const struct cache *cache, size_t i, struct kept *kept)
         return 0;
     kept->id = content(entry->id, ID_ROOM);
     return kept->id.length != 0 && is_id(kept->id)
-        && parse_policy((struct slice){cache->texts + TEXT_ROOM * i, entry->length}, NULL, &kept->policy) == TWEEDSTORK_POLICY_ACCEPTED;
+        && parse_policy((struct slice){cache->texts + TEXT_ROOM * i, entry->length}, NULL, NULL, &kept->policy) == TWEEDSTORK_POLICY_ACCEPTED;
 }
 
 /* Finds and reads the first entry that is the domain's own. Its place, or ENTRIES. */
@@ -554,7 +559,7 @@ static uint64_t refused_policy(struct slice id, struct slice body)
 
     if (id.length == 0 || !is_id(id))
         return TWEEDSTORK_BAD_ID;
-    uint64_t number = parse_policy(body, NULL, &policy);
+    uint64_t number = parse_policy(body, NULL, NULL, &policy);
     if (number != TWEEDSTORK_POLICY_ACCEPTED)
         return number;
     return body.length > TEXT_ROOM ? TWEEDSTORK_CACHE_TEXT_LONG : 0;
@@ -971,7 +976,7 @@ static struct tweedstork_host_answer check_and_judge(const struct facts *f)
         return answer(refusal, 0);
     if (is_given) {
         host = reference_of(f->host);
-        refusal = parse_policy(f->policy, &host, &policy);
+        refusal = parse_policy(f->policy, &host, NULL, &policy);
         if (refusal != TWEEDSTORK_POLICY_ACCEPTED)
             return answer(refusal, 0);
         needs_mta_sts = policy.mode == TWEEDSTORK_ENFORCE && is_live(f->fetched, policy.lifetime, f->clock);
@@ -1074,4 +1079,119 @@ struct tweedstork_message_answer plain_next_host(
     if (preferences_length == 0 || preferences_length % 4 != 0 || preferences_length / 4 > HOSTS_LIMIT || verdicts_length != preferences_length)
         return (struct tweedstork_message_answer){TWEEDSTORK_BAD_HOST_LIST, 0};
     return first_host((struct slice){preferences, preferences_length}, (struct slice){verdicts, verdicts_length});
+}
+
+/* ---- publishing ---- */
+
+static struct tweedstork_write_answer written(uint64_t number, size_t length)
+{
+    return (struct tweedstork_write_answer){number, length};
+}
+
+struct tweedstork_write_answer plain_write_txt(const uint8_t *id, size_t id_length, uint8_t *output, size_t output_length)
+{
+    static const char start[] = "v=STSv1; id=";
+    enum { START = sizeof start - 1 };
+    size_t length = START + id_length + 1;
+
+    if (id_length == 0 || !is_id((struct slice){id, id_length}))
+        return written(TWEEDSTORK_BAD_ID, 0);
+    if (length > output_length)
+        return written(TWEEDSTORK_OUTPUT_SHORT, 0);
+    memcpy(output, start, START);
+    memcpy(output + START, id, id_length);
+    output[length - 1] = ';';
+    return written(TWEEDSTORK_DONE, length);
+}
+
+#define SLICE(text) {(const uint8_t *)text, sizeof text - 1}
+static const struct slice version_and_mode[] = {
+    [TWEEDSTORK_ENFORCE] = SLICE("version: STSv1\nmode: enforce\n"),
+    [TWEEDSTORK_TESTING] = SLICE("version: STSv1\nmode: testing\n"),
+    [TWEEDSTORK_NONE] = SLICE("version: STSv1\nmode: none\n")};
+static const char mx_start[] = "mx: ", max_age_start[] = "max_age: ";
+enum { MX_START = sizeof mx_start - 1, MAX_AGE_START = sizeof max_age_start - 1, MOST_DIGITS = 8 };
+
+/* Writes the digits of a lifetime to the end of the room. How many are they? */
+static size_t put_digits(uint32_t lifetime, uint8_t room[MOST_DIGITS])
+{
+    size_t first = MOST_DIGITS;
+
+    do
+        room[--first] = (uint8_t)('0' + lifetime % 10);
+    while ((lifetime /= 10) != 0);
+    return MOST_DIGITS - first;
+}
+
+/* Writes a policy whose parts are good, unless the output is too short. */
+static struct tweedstork_write_answer put_policy(
+    uint64_t mode, uint64_t lifetime, const struct slice *patterns, size_t count, uint8_t *output, size_t output_length)
+{
+    const struct slice head = version_and_mode[mode];
+    uint8_t room[MOST_DIGITS], *out = output;
+    size_t digits = put_digits((uint32_t)lifetime, room), length = head.length + MAX_AGE_START + digits + 1;
+
+    for (size_t i = 0; i < count; i++)
+        length += MX_START + patterns[i].length + 1;
+    if (length > output_length)
+        return written(TWEEDSTORK_OUTPUT_SHORT, 0);
+    memcpy(out, head.at, head.length);
+    out += head.length;
+    for (size_t i = 0; i < count; i++) {
+        memcpy(out, mx_start, MX_START);
+        memcpy(out + MX_START, patterns[i].at, patterns[i].length);
+        out += MX_START + patterns[i].length;
+        *out++ = '\n';
+    }
+    memcpy(out, max_age_start, MAX_AGE_START);
+    memcpy(out + MAX_AGE_START, room + MOST_DIGITS - digits, digits);
+    out[MAX_AGE_START + digits] = '\n';
+    return written(TWEEDSTORK_DONE, length);
+}
+
+/* Cuts the bytes into at most PATTERNS_LIMIT patterns. Are all of them good, with no byte left over? */
+static int cut_patterns(struct slice bytes, struct slice lengths, struct slice *patterns)
+{
+    if (lengths.length % 4 != 0 || lengths.length / 4 > PATTERNS_LIMIT)
+        return 0;
+    for (size_t i = 0; i < lengths.length / 4; i++) {
+        patterns[i] = (struct slice){bytes.at, number_at(lengths.at + 4 * i)};
+        if (patterns[i].length > bytes.length || !is_pattern(patterns[i]))
+            return 0;
+        bytes.at += patterns[i].length;
+        bytes.length -= patterns[i].length;
+    }
+    return bytes.length == 0;
+}
+
+struct tweedstork_write_answer plain_write_policy(
+    uint64_t mode,
+    uint64_t lifetime,
+    const uint8_t *patterns, size_t patterns_length,
+    const uint8_t *pattern_lengths, size_t pattern_lengths_length,
+    uint8_t *output, size_t output_length)
+{
+    struct slice cut[PATTERNS_LIMIT];
+
+    if (!is_between(mode, TWEEDSTORK_ENFORCE, TWEEDSTORK_NONE))
+        return written(TWEEDSTORK_BAD_CODE, 0);
+    if ((pattern_lengths_length == 0 && mode != TWEEDSTORK_NONE)
+        || !cut_patterns((struct slice){patterns, patterns_length}, (struct slice){pattern_lengths, pattern_lengths_length}, cut))
+        return written(TWEEDSTORK_BAD_PATTERNS, 0);
+    if (lifetime > LIFETIME_LIMIT)
+        return written(TWEEDSTORK_BAD_LIFETIME, 0);
+    return put_policy(mode, lifetime, cut, pattern_lengths_length / 4, output, output_length);
+}
+
+struct tweedstork_write_answer plain_rewrite_policy(const uint8_t *body, size_t body_length, uint8_t *output, size_t output_length)
+{
+    struct slice patterns[PATTERNS_LIMIT];
+    struct policy policy;
+    uint64_t number = parse_policy((struct slice){body, body_length}, NULL, patterns, &policy);
+
+    if (number != TWEEDSTORK_POLICY_ACCEPTED)
+        return written(number, 0);
+    if (policy.mx_count > PATTERNS_LIMIT)
+        return written(TWEEDSTORK_BAD_PATTERNS, 0);
+    return put_policy(policy.mode, policy.lifetime, patterns, policy.mx_count, output, output_length);
 }

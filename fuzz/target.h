@@ -1,8 +1,8 @@
 /*
  * What a fuzz target is: a call of the library, how an input becomes its arguments, and how it is asked. An input may also be
  * a history of calls, each on the memory that the last one left.
- * driver.c holds each answer of the library against the independent implementation's; txt.c, policy.c, host.c, message.c and
- * cache.c each define `target`.
+ * driver.c holds each answer of the library against the independent implementation's; txt.c, policy.c, host.c, message.c,
+ * cache.c and publish.c each define `target`.
  */
 #ifndef TARGET_H
 #define TARGET_H

@@ -3,7 +3,7 @@
  *
  * The relay asks before it delivers, learns what the library asks for, and asks again. The rules are those of
  * MTA-STS (RFC 8461) and SMTP-DANE (RFC 7672). Every call of the archive is proved to answer as its definition says, for
- * every input.
+ * every input. At the end stand three calls for domains that publish a policy of their own.
  *
  * docs/RELAY.md says what the relay has to do: where each fact comes from, what it means, and what no call does for it.
  * docs/RULES.md has the rules in plain words.
@@ -38,7 +38,7 @@
  *   either end of a label, no dot at the end (cut off the one that resolvers print). Case doesn't matter; an international
  *   name is given as A-labels (xn--).
  * - An answer is a struct; its first field is the answer number, one of enum tweedstork_number. It is never zero.
- * - A refusal (40 to 80) has zero in every other field, but for the line and offset of 53 to 57 (see tweedstork_read_policy), and
+ * - A refusal (40 to 83) has zero in every other field, but for the line and offset of 53 to 57 (see tweedstork_read_policy), and
  *   leaves the memory that you passed as it was, but for 42 (see tweedstork_read_txt).
  * - No call keeps a pointer, allocates or has state. Calls may run on any number of threads at once, but for a store into a
  *   cache: it is alone with its table and texts.
@@ -54,8 +54,8 @@ extern "C" {
 #endif
 
 /* The version of this header. A number that another version gave a meaning to is never given a second one. */
-#define TWEEDSTORK_VERSION "1.4.0"
-#define TWEEDSTORK_VERSION_NUMBER 10400 /* major * 10000 + minor * 100 + patch */
+#define TWEEDSTORK_VERSION "1.5.0"
+#define TWEEDSTORK_VERSION_NUMBER 10500 /* major * 10000 + minor * 100 + patch */
 
 /* The version of the archive. It equals TWEEDSTORK_VERSION_NUMBER where header and archive belong together. */
 uint64_t tweedstork_version(void);
@@ -128,14 +128,19 @@ enum tweedstork_number {
                                                a list that is missing or of the wrong length, lengths (four bytes each,
                                                big-endian) that do not sum, or a key place outside its certificate */
     TWEEDSTORK_FACT_MISSING = 66,           /* refused: a later fact is given while an earlier needed one is missing */
-    TWEEDSTORK_BAD_CODE = 67,               /* refused: a code or yes/no number (each of the paths too) outside its choices,
-                                               perhaps left zero, or over two TLSA answers */
+    TWEEDSTORK_BAD_CODE = 67,               /* refused: a code, a mode or a yes/no number (each of the paths too) outside its
+                                               choices, perhaps left zero, or over two TLSA answers */
     TWEEDSTORK_CACHE_FULL = 70,             /* refused: no entry of the cache is the domain's own, empty or stale */
     TWEEDSTORK_CACHE_TEXT_LONG = 71,        /* refused: the policy has over 1,024 bytes, which is the room of a cache's entry */
     TWEEDSTORK_CACHE_NOT_FOUND = 72,        /* refused: the cache holds no live policy for the domain */
     TWEEDSTORK_BAD_SIZE = 74,               /* refused: a cache whose table has not 64 entries, or whose texts have not 65,536
                                                bytes */
-    TWEEDSTORK_BAD_ID = 80                  /* refused: the id is not 1 to 32 letters or digits */
+    TWEEDSTORK_BAD_ID = 80,                 /* refused: the id is not 1 to 32 letters or digits */
+    TWEEDSTORK_BAD_PATTERNS = 81,           /* refused: over 16 patterns, none where the mode is not 'none', one that is neither
+                                               a name nor '*.' and a name, or lengths (four bytes each, big-endian) that do not
+                                               sum */
+    TWEEDSTORK_BAD_LIFETIME = 82,           /* refused: a lifetime above 31,557,600 */
+    TWEEDSTORK_OUTPUT_SHORT = 83            /* refused: the output is too short for what would be written */
 };
 
 /* An answer number in words: its sentence in enum tweedstork_number; for any other number, that it is none. Never NULL. */
@@ -203,8 +208,8 @@ static inline const char *tweedstork_answer_words(uint64_t number)
                "certificate";
     case TWEEDSTORK_FACT_MISSING: return "refused: a later fact is given while an earlier needed one is missing";
     case TWEEDSTORK_BAD_CODE:
-        return "refused: a code or yes/no number (each of the paths too) outside its choices, perhaps left zero, or over "
-               "two TLSA answers";
+        return "refused: a code, a mode or a yes/no number (each of the paths too) outside its choices, perhaps left zero, "
+               "or over two TLSA answers";
     case TWEEDSTORK_CACHE_FULL: return "refused: no entry of the cache is the domain's own, empty or stale";
     case TWEEDSTORK_CACHE_TEXT_LONG:
         return "refused: the policy has over 1,024 bytes, which is the room of a cache's entry";
@@ -212,6 +217,11 @@ static inline const char *tweedstork_answer_words(uint64_t number)
     case TWEEDSTORK_BAD_SIZE:
         return "refused: a cache whose table has not 64 entries, or whose texts have not 65,536 bytes";
     case TWEEDSTORK_BAD_ID: return "refused: the id is not 1 to 32 letters or digits";
+    case TWEEDSTORK_BAD_PATTERNS:
+        return "refused: over 16 patterns, none where the mode is not 'none', one that is neither a name nor '*.' and a name, "
+               "or lengths (four bytes each, big-endian) that do not sum";
+    case TWEEDSTORK_BAD_LIFETIME: return "refused: a lifetime above 31,557,600";
+    case TWEEDSTORK_OUTPUT_SHORT: return "refused: the output is too short for what would be written";
     default: return "no answer number; zero is none, and means that nobody answered";
     }
 }
@@ -573,6 +583,73 @@ struct tweedstork_message_answer tweedstork_next_host(
     uint64_t mx_lookup,
     const uint8_t *preferences, size_t preferences_length,
     const uint8_t *verdicts, size_t verdicts_length);
+
+/*
+ * Publishing: what a domain that wants its mail protected puts onto its policy host and into DNS, and what the calls above then
+ * read. The policy is served first and the TXT record changed second (RFC 8461, 8.1); docs/RELAY.md says more. No delivery needs
+ * these three calls.
+ */
+
+/* How many bytes of output are always enough, for a TXT text and for a policy. */
+enum { TWEEDSTORK_WRITE_TXT_ROOM = 45, TWEEDSTORK_WRITE_POLICY_ROOM = 4207 };
+
+/*
+ * Writes the text of the TXT record for _mta-sts.DOMAIN (RFC 8461, 3.1): v=STSv1; id=ID;
+ *
+ * Takes:   id: 1 to 32 letters or digits. Senders fetch the policy anew when it changes, so each change of the policy gets an id
+ *          that the domain never had; the time of the change is one. output: memory that the text is written into; it must not
+ *          overlap the id. TWEEDSTORK_WRITE_TXT_ROOM bytes are always enough.
+ * Answers: TWEEDSTORK_DONE with the text's length. As one character string, alone at its name, it is accepted by
+ *          tweedstork_read_txt, with this id.
+ *
+ *          Refusals, in this order: TWEEDSTORK_BAD_ID, TWEEDSTORK_OUTPUT_SHORT.
+ * Leaves:  the text at the front of the output, with no zero byte behind it, and the rest of it as it was. A refusal leaves
+ *          everything as it was.
+ */
+struct tweedstork_write_answer tweedstork_write_txt(
+    const uint8_t *id, size_t id_length,
+    uint8_t *output, size_t output_length);
+
+/*
+ * Writes a policy (RFC 8461, 3.2), as it is served at https://mta-sts.DOMAIN/.well-known/mta-sts.txt: its version, the mode, an
+ * mx line for each pattern and max_age, each line ending in LF.
+ *
+ * Takes:   mode (enum tweedstork_mode). lifetime: how many seconds senders keep the policy, 0 to 31,557,600 (0 protects nobody: it
+ *          is stale at once). patterns: 1 to 16 of them, with TWEEDSTORK_NONE also 0, one after another, each the name of a mail
+ *          server or "*." and a name. pattern_lengths: list of their lengths. output: memory that the policy is written into; it
+ *          must not overlap the other two. TWEEDSTORK_WRITE_POLICY_ROOM bytes are always enough.
+ * Answers: TWEEDSTORK_DONE with the policy's length. tweedstork_read_policy accepts it, with this mode and lifetime; and its
+ *          patterns are these, in this order and with their case.
+ *
+ *          Refusals, in this order: TWEEDSTORK_BAD_CODE (the mode), TWEEDSTORK_BAD_PATTERNS, TWEEDSTORK_BAD_LIFETIME,
+ *          TWEEDSTORK_OUTPUT_SHORT.
+ * Leaves:  the policy at the front of the output, with no zero byte behind it, and the rest of it as it was. A refusal leaves
+ *          everything as it was.
+ */
+struct tweedstork_write_answer tweedstork_write_policy(
+    uint64_t mode,
+    uint64_t lifetime,
+    const uint8_t *patterns, size_t patterns_length,
+    const uint8_t *pattern_lengths, size_t pattern_lengths_length,
+    uint8_t *output, size_t output_length);
+
+/*
+ * Writes a policy anew, as tweedstork_write_policy writes it: with its mode, its lifetime (max_age, or 31,557,600 where max_age is
+ * above that) and its patterns in order, and with no other field.
+ *
+ * Takes:   body: the policy. output: memory that the new one is written into; the new one may be longer than the old. It must
+ *          not overlap the body. TWEEDSTORK_WRITE_POLICY_ROOM bytes are always enough.
+ * Answers: TWEEDSTORK_DONE with the new policy's length. tweedstork_read_policy answers it as it answers the old one. Rewriting
+ *          what was rewritten changes nothing.
+ *
+ *          Refusals, in this order: those of tweedstork_read_policy, TWEEDSTORK_BAD_PATTERNS (it has over 16),
+ *          TWEEDSTORK_OUTPUT_SHORT. Only tweedstork_read_policy says which line is wrong.
+ * Leaves:  the policy at the front of the output, with no zero byte behind it, and the rest of it as it was. A refusal leaves
+ *          everything as it was.
+ */
+struct tweedstork_write_answer tweedstork_rewrite_policy(
+    const uint8_t *body, size_t body_length,
+    uint8_t *output, size_t output_length);
 
 /*
  * Conveniences, in C and so not proved; tests/conveniences.c tests them.

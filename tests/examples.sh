@@ -1,5 +1,5 @@
 #!/usr/bin/env bash
-# The example programs, run on inputs of document 01 and RFC 8461: what they print last is the answer that the papers give.
+# The example programs, run on inputs of documents 01 and 02 and RFC 8461: what they print last, or all of it, is what the papers give.
 # Usage: examples.sh FOLDER, where the programs are
 set -euo pipefail
 [ $# -eq 1 ] || { echo "usage: $0 FOLDER, where the programs are" >&2; exit 2; }
@@ -184,6 +184,142 @@ wrong 57 "policy: line 1, at byte 0: \"mx: $(printf '%096d' 0)\" and so on, 304 
 printf 'version: STSv1\nmode: none\n' >"$files/short"
 expect 'policy: answer 52: refused: the policy lacks version, mode, max_age or mx' discover $domain/records.txt "$files/short"
 expect "discover: cannot read $files/missing (at most 100000 bytes)" discover $domain/records.txt "$files/missing"
+
+# Document 02, No. 5: what a domain publishes.
+publication() { # publication ID POLICY: all that is printed for them
+    cat <<END
+1. Serve these lines at https://mta-sts.DOMAIN/.well-known/mta-sts.txt, as
+   text/plain and with no empty line at either end:
+
+$2
+
+2. Only then put this line into DOMAIN's zone, in the place of an older one:
+   a sender that sees a new id fetches the file at once.
+
+_mta-sts IN TXT "v=STSv1; id=$1;"
+END
+}
+publishes() { # publishes ID POLICY ARGUMENT..: leaves what is printed in $files/printed
+    local id=$1 policy=$2 status=0
+    shift 2
+    "$programs/publish" "$@" >"$files/printed" 2>&1 || status=$?
+    if [ "$status" -ne 0 ] || ! diff <(publication "$id" "$policy") "$files/printed"; then
+        echo "publish $*: status $status, and more or less than expected (<)"
+        failed=1
+    fi
+}
+says() { # says STATUS BEGINNING ARGUMENT..: on standard error, and nothing is printed
+    local wanted=$1 beginning=$2 status=0 printed said
+    shift 2
+    printed=$("$programs/publish" "$@" 2>"$files/said") || status=$?
+    said=$(<"$files/said")
+    if [ "$status" -ne "$wanted" ] || [ -n "$printed" ] || [[ $said != "$beginning"* ]]; then
+        echo "publish $*: expected $wanted and '$beginning', got $status and '$said' beside '$printed'"
+        failed=1
+    fi
+}
+refuses() { # refuses NUMBER ABOUT ARGUMENT..
+    local number=$1 about=$2
+    shift 2
+    says 1 "publish: $about: answer $number: refused: " "$@"
+}
+# The file that the administrator copies.
+policy_printed() { sed -n '/^version: /,/^max_age: /p' "$files/printed"; }
+same() { # same FILE FILE WORDS
+    if ! cmp "$1" "$2"; then
+        echo "publish: $3"
+        failed=1
+    fi
+}
+
+rfc=(enforce 604800 mail.example.com '*.example.net' backupmx.example.com)
+tr -d '\r' <$domain/policy.txt >"$files/rfc"
+publishes 20160831085700Z "$(<"$files/rfc")" --id 20160831085700Z "${rfc[@]}"
+policy_printed >"$files/policy.txt"
+same "$files/rfc" "$files/policy.txt" "the policy of RFC 8461 has other bytes"
+sed -n 's/^_mta-sts IN TXT "\(.*\)"$/\1/p' "$files/printed" >"$files/records.txt"
+expect 'policy: answer 7: mode enforce, for 604800 seconds, with 3 mx patterns' discover "$files/records.txt" "$files/policy.txt"
+for policy in "$files/policy.txt" $domain/policy.txt; do
+    publishes 1 "$(<"$files/rfc")" --id 1 --rewrite "$policy"
+    same "$files/rfc" <(policy_printed) "the policy of RFC 8461 has other bytes when it is written anew"
+done
+publishes a1 $'version: STSv1\nmode: testing\nmx: Mail.Example.COM\nmax_age: 31557600' --id a1 testing 31557600 Mail.Example.COM
+publishes a1 $'version: STSv1\nmode: none\nmax_age: 0' --id a1 none 0
+publishes a1 $'version: STSv1\nmode: none\nmx: a\nmax_age: 86400' --id a1 none 0086400 a
+printf 'max_age: 9999999999\r\nmx:b.example\r\nnote: x\r\nmode: testing\r\nmx: *.A\r\nversion: STSv1' >"$files/old"
+publishes b2 $'version: STSv1\nmode: testing\nmx: b.example\nmx: *.A\nmax_age: 31557600' --id b2 --rewrite "$files/old"
+policy_printed >"$files/policy.txt"
+publishes b3 "$(<"$files/policy.txt")" --id b3 --rewrite "$files/policy.txt"
+
+# The longest policy and record.
+label=$(printf '%063d' 0)
+wildcard="*.$label.$label.$label.${label:2}"
+mapfile -t sixteen < <(for _ in {1..16}; do echo "$wildcard"; done)
+publishes 20160831085700Zabcdefghijklmnopq $'version: STSv1\nmode: enforce\n'"$(printf 'mx: %s\n' "${sixteen[@]}")"$'\nmax_age: 31557600' \
+    --id 20160831085700Zabcdefghijklmnopq enforce 31557600 "${sixteen[@]}"
+if [ "$(policy_printed | wc -c)" -ne 4207 ]; then
+    echo "publish: the longest policy has not 4,207 bytes"
+    failed=1
+fi
+
+# Without --id it is the present time, which is accepted as an id.
+before=$(date -u +%Y%m%d%H%M%SZ)
+"$programs/publish" "${rfc[@]}" >"$files/printed" || failed=1
+sed -n 's/^_mta-sts IN TXT "\(.*\)"$/\1/p' "$files/printed" >"$files/records.txt"
+policy_printed >"$files/policy.txt"
+expect 'policy: answer 7: mode enforce, for 604800 seconds, with 3 mx patterns' discover "$files/records.txt" "$files/policy.txt"
+now=$(sed 's/^v=STSv1; id=\(.*\);$/\1/' "$files/records.txt")
+if [[ ! $now =~ ^[0-9]{14}Z$ || $now < $before || $now > $(date -u +%Y%m%d%H%M%SZ) ]]; then
+    echo "publish: the id $now is not the present time"
+    failed=1
+fi
+
+if "$programs/publish" "${rfc[@]}" >/dev/full 2>"$files/said"; then
+    echo "publish: a full disk goes unnoticed"
+    failed=1
+fi
+refuses 80 'id "2016-08-31"' --id 2016-08-31 "${rfc[@]}"
+refuses 80 'id ""' --id '' "${rfc[@]}"
+refuses 80 'id "20160831085700Zabcdefghijklmnopqr"' --id 20160831085700Zabcdefghijklmnopqr --rewrite $domain/policy.txt
+refuses 81 '0 patterns' enforce 604800
+refuses 81 '0 patterns' testing 604800
+refuses 81 'pattern 2, "mail.example.com."' enforce 604800 mail.example.com mail.example.com. -
+refuses 81 'pattern 1, ""' none 604800 ''
+refuses 81 '17 patterns' none 604800 "${sixteen[@]}" a
+mapfile -t thousand < <(seq 1000)
+refuses 81 '1000 patterns' enforce 604800 "${thousand[@]}"
+refuses 81 'pattern 1000, "1000-"' enforce 604800 "${thousand[@]/%1000/1000-}"
+refuses 81 'pattern 1, "*.n'"$wildcard\"" enforce 604800 "*.n$wildcard"
+refuses 82 'lifetime 31557601' enforce 31557601 a
+refuses 82 'lifetime 18446744073709551615' none 18446744073709551615
+refuses 57 "$domain/wrong-policy.txt, line 3" --rewrite $domain/wrong-policy.txt
+refuses 53 "$files/none, line 1" --rewrite "$files/none"
+refuses 52 "$files/short" --rewrite "$files/short"
+{ cat "$files/rfc"; printf 'mx: %s\n' {a..n}; } >"$files/seventeen"
+refuses 81 "$files/seventeen, 17 patterns" --rewrite "$files/seventeen"
+for size in 65537 200000; do
+    printf '%s\nnote: %0*d' "$(<"$files/rfc")" "$size" 0 >"$files/large"
+    truncate -s "$size" "$files/large"
+    refuses 50 "$files/large" --rewrite "$files/large"
+done
+truncate -s 65536 "$files/large"
+publishes c1 "$(<"$files/rfc")" --id c1 --rewrite "$files/large"
+
+usage='usage: publish [--id ID] MODE LIFETIME [PATTERN ...]'
+says 2 "$usage"
+says 2 "$usage" enforce
+says 2 "$usage" Enforce 1 a
+says 2 "$usage" '' 1 a
+for number in '' -1 +1 ' 1' 1s 0x10 1.5 18446744073709551616 99999999999999999999999; do
+    says 2 "$usage" enforce "$number" a
+done
+says 2 "$usage" --id
+says 2 "$usage" --id a1
+says 2 "$usage" --rewrite
+says 2 "$usage" --rewrite $domain/policy.txt a
+says 2 "$usage" --rewrite $domain/policy.txt --id a1
+says 2 "publish: cannot read $files/missing" --rewrite "$files/missing"
+says 2 "publish: cannot read $files" --rewrite "$files"
 
 [ "$failed" -eq 0 ] && echo "examples: as expected"
 exit "$failed"

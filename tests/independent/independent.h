@@ -13,5 +13,8 @@ __typeof__(tweedstork_judge_host) independent_judge_host;
 __typeof__(tweedstork_next_host) independent_next_host;
 __typeof__(tweedstork_cache_store) independent_cache_store;
 __typeof__(tweedstork_cache_lookup) independent_cache_lookup;
+__typeof__(tweedstork_write_txt) independent_write_txt;
+__typeof__(tweedstork_write_policy) independent_write_policy;
+__typeof__(tweedstork_rewrite_policy) independent_rewrite_policy;
 
 #endif

@@ -21,13 +21,14 @@ use Rattle.clock.specs.Clock.{isReading, isLive}
 use Rattle.policies.specs.Policy.{policyAnswer}
 use Rattle.policies.proofs.Sanity.{isPolicyRefusal, refusal-range, policy-number}
 use Rattle.txt.specs.Paper.{isId}
+use Rattle.txt.proofs.Paper.{id-parts}
 use Rattle.writing.specs.Answer.{answerUnless}
 use Rattle.cache.specs.declared.CacheEntry.{CacheEntry}
 use Rattle.cache.specs.declared.CacheAnswer.{CacheAnswer}
 use Rattle.cache.specs.Held.{Held, textPlace, zeros, unfilled, filled, isPolicy, fieldsFit, isAccepted, written, heldIn, contents}
 use Rattle.cache.specs.Store.{isLiveAt, isOwn, isEmpty, isStale, elsePlace, ownPlace, storePlace, sizesFit, argumentChecks, storeChecks, storeRefusal, entryFor, storeAnswer}
 use Rattle.cache.specs.Lookup.{ifLive, liveFor, onlyNumber, foundAt, lookupRefusal, refusedOr, lookupAnswer, handedBack}
-use Rattle.cache.proofs.Fill.{filled-out, id-short}
+use Rattle.cache.proofs.Fill.{filled-out}
 use Rattle.cache.specs.Runs.{Memory, store, lookup, found, answerTo, after}
 use Rattle.cache.proofs.Stored.{held-length, sizes-are, Good}
 use Rattle.cache.proofs.StoredFound.{place-own}
@@ -255,7 +256,7 @@ module _ (clock : ℕ) (d i p : List ℕ) where
 
   pub entry-id : isId i ≡ true → entryFor clock d i p .id ≡ i ++ zeros (32 - length i)
   unfolding entryFor
-  entry-id h = filled-out 32 i (id-short i h)
+  entry-id h = filled-out 32 i (id-parts i h .1)
 
   pub entry-numbers : (entryFor clock d i p .fetched ≡ clock) × (entryFor clock d i p .length ≡ length p)
   unfolding entryFor

@@ -5,22 +5,21 @@ use mathlib.Core.Bool.{Bool, true, false, cond, not, _&&_}
 use mathlib.Core.List.{List, [], _∷_, _++_}
 use native.Mathlib.Omega.{arith}
 use lib.Dec.{eqb}
-use lib.ListN.{length, getD, take, drop, length-replicate}
+use lib.ListN.{length, take, drop, length-replicate}
 use lib.Seq.{take-length}
-use borrow.Author.Tests.{le-leb}
-use Rattle.lists.specs.Bytes.{within, all}
+use borrow.Author.Tests.{le-leb, ne-eqb}
+use Rattle.lists.specs.Bytes.{all}
 use Rattle.lists.specs.Span.{trimmedLength}
-use Rattle.lists.specs.Split.{split, join, lacks}
+use Rattle.lists.specs.Split.{lacks}
 use Rattle.lists.specs.Write.{wroteFront}
-use Rattle.lists.proofs.Bools.{apart, and-left, and-right, and-intro}
-use Rattle.lists.proofs.All.{all-joined, all-more, all-lacks, all-drop}
-use Rattle.lists.proofs.Laws.{within-true}
+use Rattle.lists.proofs.Bools.{apart, and-left, and-right}
+use Rattle.lists.proofs.All.{all-lacks, all-drop}
 use Rattle.lists.proofs.Trim.{trim-gone}
-use Rattle.lists.proofs.Split.{join-split}
 use Rattle.fields.specs.Name.{letterOrDigit}
-use Rattle.names.specs.Name.{labelByte, isLabel, isName}
-use Rattle.names.proofs.Cover.{name-labels}
+use Rattle.names.specs.Name.{labelByte, isName}
+use Rattle.names.proofs.Cover.{name-bytes}
 use Rattle.txt.specs.Paper.{isId}
+use Rattle.txt.proofs.Paper.{id-parts}
 use Rattle.cache.specs.Held.{isZero, zeros, unfilled, filled}
 
 -- a text without zeros has no final zeros
@@ -59,15 +58,6 @@ pub filled-out : (n : ℕ) (s : List ℕ) → length s ≤ n → filled n s ≡ 
 unfolding filled wroteFront
 filled-out n s h = rw (le-leb (length s) (length (zeros n)) (omega (arith, h, length-replicate {A = ℕ} n 0)), drop-zeros (length s) n)
 
--- no byte of pieces and of what joins them
-all-between : (q : ℕ → Bool) (b : ℕ) → q b ≡ true → (ps : List (List ℕ)) → all (all q) ps ≡ true → all q (join b ps) ≡ true
-unfolding all join
-all-between q b g [] h = refl
-all-between q b g (p ∷ []) h = and-left (all q p) true h
-all-between q b g (p ∷ r ∷ ps) h =
-    all-joined q p (b ∷ join b (r ∷ ps)) (and-left (all q p) (all (all q) (r ∷ ps)) h)
-    (and-intro (q b) (all q (join b (r ∷ ps))) g (all-between q b g (r ∷ ps) (and-right (all q p) (all (all q) (r ∷ ps)) h)))
-
 zero-no-label : labelByte 0 ≡ false
 unfolding labelByte
 zero-no-label = refl
@@ -76,20 +66,9 @@ zero-no-letter : letterOrDigit 0 ≡ false
 unfolding letterOrDigit
 zero-no-letter = refl
 
-label-lacks : (l : List ℕ) → isLabel l ≡ true → lacks 0 l ≡ true
-unfolding isLabel
-label-lacks l h = all-lacks labelByte 0 zero-no-label l (and-right (within 1 63 (length l) && not (eqb (getD l 0 0) 45) && not (eqb (getD l (length l - 1) 0) 45)) (all labelByte l) h)
-
 -- names and ids have no zero
 pub name-lacks : (d : List ℕ) → isName d ≡ true → lacks 0 d ≡ true
-name-lacks d h =
-    rw (sym (join-split 46 d))
-    (all-between (λ (x : ℕ). not (eqb x 0)) 46 refl (split 46 d) (all-more isLabel (lacks 0) label-lacks (split 46 d) (name-labels d h)))
+name-lacks d h = name-bytes (λ (x : ℕ). not (eqb x 0)) (λ b e. rw (ne-eqb b 0 (λ z. apart (sym zero-no-label ∙ (rw z at e))))) refl d h
 
 pub id-lacks : (i : List ℕ) → isId i ≡ true → lacks 0 i ≡ true
-unfolding isId
-id-lacks i h = all-lacks letterOrDigit 0 zero-no-letter i (and-right (within 1 32 (length i)) (all letterOrDigit i) h)
-
-pub id-short : (i : List ℕ) → isId i ≡ true → length i ≤ 32
-unfolding isId
-id-short i h = within-true 1 32 (length i) (and-left (within 1 32 (length i)) (all letterOrDigit i) h) .1
+id-lacks i h = all-lacks letterOrDigit 0 zero-no-letter i (id-parts i h .2)

@@ -13,9 +13,9 @@ use Rattle.lists.specs.Bytes.{all}
 use Rattle.lists.specs.Equal.{sameText}
 use Rattle.lists.specs.Check.{refusalOf}
 use Rattle.lists.proofs.Bools.{apart, and-left, and-right}
-use Rattle.writing.specs.Answer.{answerUnless}
+use Rattle.writing.specs.Answer.{answerUnless, unlessRefused}
 use Rattle.cache.specs.Held.{Held, contents}
-use Rattle.cache.specs.Store.{argumentChecks, storeRefusal, unlessRefused, storeAnswer, storePlace, clockAndName}
+use Rattle.cache.specs.Store.{argumentChecks, storeRefusal, storeAnswer, storePlace, clockAndName}
 use Rattle.cache.specs.Lookup.{ifLive, lookupAnswer}
 use Rattle.cache.specs.Runs.{Memory, isEmptyTable, Call, store, lookup, clockOf, domainOf, Answer, wrote, found, lookupIn, textIn, placeless, answerTo, after, reached, rises, isFor, callsFor, answersFor, numberIn, noneFull}
 use Rattle.cache.proofs.Stored.{given, Good}

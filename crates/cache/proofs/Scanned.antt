@@ -18,14 +18,14 @@ use Rattle.lists.proofs.All.{all-more}
 use Rattle.lists.proofs.Place.{first-passes, first-like, first-agree, first-none}
 use Rattle.lists.proofs.Check.{checks-first, checks-last}
 use Rattle.writing.specs.declared.WriteAnswer.{WriteAnswer}
-use Rattle.writing.specs.Answer.{answerUnless}
+use Rattle.writing.specs.Answer.{answerUnless, unlessRefused}
 use Rattle.writing.specs.Over.{over}
 use Rattle.cache.specs.declared.CacheEntry.{CacheEntry}
 use Rattle.cache.specs.declared.State.the-variants as S
 use Rattle.cache.specs.declared.Found.{Found}
 use Rattle.cache.specs.declared.Plan.{Plan}
 use Rattle.cache.specs.Held.{Held, textPlace, unfilled, textAt, isAccepted, written, heldIn, heldFrom, contents, noEntry}
-use Rattle.cache.specs.Store.{isLiveAt, isOwn, isEmpty, isStale, elsePlace, ownPlace, storePlace, sizesFit, argumentChecks, storeChecks, storeRefusal, unlessRefused, entryFor, storeAnswer, tableAfter, textsAfter, clockAndName}
+use Rattle.cache.specs.Store.{isLiveAt, isOwn, isEmpty, isStale, elsePlace, ownPlace, storePlace, sizesFit, argumentChecks, storeChecks, storeRefusal, entryFor, storeAnswer, tableAfter, textsAfter, clockAndName}
 use Rattle.cache.specs.Lookup.{ifLive, liveFor, foundAt, refusedOr, lookupRefusal, lookupAnswer}
 use Rattle.cache.specs.Scan.{stateOf, rankIn, foundOf, isSought, better, step, foundFrom, scanned, beginning, ownScanned, bothScanned, beyond, refusalFor, refusedPlan, planBy, planOf, answerBy, answerFrom}
 use Rattle.cache.proofs.Covered.{held-yes, held-no, outside-kept}

@@ -21,10 +21,11 @@ use Rattle.policies.specs.Policy.{policyAnswer}
 use Rattle.txt.specs.Paper.{isId}
 use Rattle.writing.specs.Over.{over}
 use Rattle.writing.proofs.Over.{over-length}
+use Rattle.writing.specs.Answer.{unlessRefused}
 use Rattle.cache.specs.declared.CacheEntry.{CacheEntry}
 use Rattle.cache.specs.declared.CacheAnswer.{CacheAnswer}
 use Rattle.cache.specs.Held.{Held, textPlace, zeros, filled, isPolicy, textAt, isAccepted, heldIn, contents, noEntry, written}
-use Rattle.cache.specs.Store.{sizesFit, argumentChecks, storeChecks, storeRefusal, unlessRefused, entryFor, tableAfter, textsAfter, isLiveAt, isOwn, isEmpty, ownPlace, storePlace, clockAndName}
+use Rattle.cache.specs.Store.{sizesFit, argumentChecks, storeChecks, storeRefusal, entryFor, tableAfter, textsAfter, isLiveAt, isOwn, isEmpty, ownPlace, storePlace, clockAndName}
 use Rattle.cache.specs.Lookup.{ifLive, liveFor, onlyNumber, foundAt, refusedOr, lookupRefusal, lookupAnswer, handedBack}
 use Rattle.cache.specs.Runs.{Memory, isEmptyTable, Call, store, lookup, clockOf, domainOf, Answer, found, placeless, answerTo, after, reached}
 use Rattle.cache.proofs.Single.{Single, empty-not-own, own-like, own-inside, single-put, other-live, other-found}

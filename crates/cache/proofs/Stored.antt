@@ -16,12 +16,13 @@ use Rattle.names.specs.Name.{isName}
 use Rattle.names.proofs.Cover.{name-short}
 use Rattle.clock.specs.Clock.{isReading}
 use Rattle.txt.specs.Paper.{isId}
+use Rattle.txt.proofs.Paper.{id-parts}
 use Rattle.writing.specs.Over.{over}
 use Rattle.writing.proofs.Over.{over-there, over-before, over-after}
 use Rattle.cache.specs.declared.CacheEntry.{CacheEntry}
 use Rattle.cache.specs.Held.{Held, room, textPlace, noEntry, isPolicy, textAt, fieldsFit, isAccepted, heldIn, heldFrom, contents}
 use Rattle.cache.specs.Store.{sizesFit, entryFor}
-use Rattle.cache.proofs.Fill.{filled-back, name-lacks, id-lacks, id-short}
+use Rattle.cache.proofs.Fill.{filled-back, name-lacks, id-lacks}
 
 -- what a table holds, position by position
 pub held-length : (x : List ℕ) (i : ℕ) (t : List CacheEntry) → length (heldFrom x i t) ≡ length t
@@ -65,7 +66,7 @@ module _ (clock : ℕ) (d i p : List ℕ) (good : Good clock d i p) where
   pub made-holds : heldIn (entryFor clock d i p) p ≡ some (given clock d i p)
   unfolding heldIn isAccepted fieldsFit entryFor
   made-holds =
-      rw (filled-back 253 d (name-short d (good .name)) (name-lacks d (good .name)), filled-back 32 i (id-short i (good .id-form)) (id-lacks i (good .id-form)), le-leb (length p) 1024 (good .short), good .name, good .id-form, good .reading, good .policy)
+      rw (filled-back 253 d (name-short d (good .name)) (name-lacks d (good .name)), filled-back 32 i (id-parts i (good .id-form) .1) (id-lacks i (good .id-form)), le-leb (length p) 1024 (good .short), good .name, good .id-form, good .reading, good .policy)
 
   module _ (k : ℕ) (x : List ℕ) (k-inside : k < 64) (size : length x ≡ 65536) where
     pub room-there : textPlace k + length p ≤ length x

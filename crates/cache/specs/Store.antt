@@ -16,7 +16,7 @@ use Rattle.clock.specs.Clock.{isReading, isLive}
 use Rattle.policies.specs.Policy.{policyAnswer}
 use Rattle.txt.specs.Paper.{isId}
 use Rattle.writing.specs.declared.WriteAnswer.{WriteAnswer}
-use Rattle.writing.specs.Answer.{answerUnless}
+use Rattle.writing.specs.Answer.{answerUnless, unlessRefused}
 use Rattle.writing.specs.Over.{over}
 use Rattle.cache.specs.declared.CacheEntry.{CacheEntry}
 use Rattle.cache.specs.Held.{Held, entries, room, textPlace, filled, isPolicy, contents}
@@ -81,11 +81,6 @@ storeChecks clock d i p t x =
 -- the refusal of a store, or none
 unfoldable pub storeRefusal : ℕ → (d i p : List ℕ) → List CacheEntry → List ℕ → Option ℕ
 storeRefusal clock d i p t x = refusalOf (storeChecks clock d i p t x)
-
--- a refusal changes nothing
-unfoldable pub unlessRefused : {A : Type 0} → Option ℕ → A → A → A
-unlessRefused none before after = after
-unlessRefused (some refusal) before after = before
 
 -- the entry that a store writes: domain and id filled up with zeros, the call's clock as fetch reading, and the text's length
 unfoldable pub entryFor : ℕ → (d i p : List ℕ) → CacheEntry

@@ -1,7 +1,7 @@
 -- A text that equals a name ignoring ASCII case is a name; so `covers` tells of a name what `matchesName` says. Assumes nothing.
 use Prim.Native.Nat.{ℕ, suc, _+_, _-_, _<_, _≤_}
 use mathlib.Core.Path.{_≡_, refl, sym, ap, _∙_}
-use mathlib.Core.Bool.{Bool, true, false, cond, _&&_, _||_, and-false, or-false}
+use mathlib.Core.Bool.{Bool, true, false, cond, not, _&&_, _||_, and-false, or-false}
 use mathlib.Core.List.{List, [], _∷_, map}
 use native.Mathlib.Omega.{arith}
 use lib.Dec.{eqb, leb, ltb}
@@ -12,7 +12,8 @@ use Rattle.lists.specs.Equal.{agree, sameLetter, sameText}
 use Rattle.lists.specs.Split.{indexOf, split, toFirst}
 use Rattle.lists.proofs.Bools.{and-left, and-right, never}
 use Rattle.lists.proofs.Laws.{within-true}
-use Rattle.lists.proofs.Split.{split-first}
+use Rattle.lists.proofs.All.{all-more, all-between}
+use Rattle.lists.proofs.Split.{split-first, join-split}
 use Rattle.names.specs.Name.{labelByte, isLabel, isName, isStarred, isWildcard, afterFirst, matchesName}
 use Rattle.names.specs.Scan.{followsDot, coversName}
 
@@ -125,6 +126,19 @@ name-short n h = leb-true (length n) 253 (and-right (leb 1 (length n)) (leb (len
 pub name-labels : (n : List ℕ) → isName n ≡ true → all isLabel (split 46 n) ≡ true
 unfolding isName
 name-labels n h = and-right (within 1 253 (length n)) (all isLabel (split 46 n)) h
+
+-- a name has 1 to 253 bytes, each of a label or a dot
+pub name-some : (n : List ℕ) → isName n ≡ true → 1 ≤ length n
+unfolding isName
+name-some n h = within-true 1 253 (length n) (and-left (within 1 253 (length n)) (all isLabel (split 46 n)) h) .0
+
+label-bytes : (p : ℕ → Bool) → ((b : ℕ) → labelByte b ≡ true → p b ≡ true) → (l : List ℕ) → isLabel l ≡ true → all p l ≡ true
+unfolding isLabel
+label-bytes p f l h = all-more labelByte p f l (and-right (within 1 63 (length l) && not (eqb (getD l 0 0) 45) && not (eqb (getD l (length l - 1) 0) 45)) (all labelByte l) h)
+
+-- so what each byte of a label passes, and the dot, each byte of a name passes
+pub name-bytes : (p : ℕ → Bool) → ((b : ℕ) → labelByte b ≡ true → p b ≡ true) → p 46 ≡ true → (n : List ℕ) → isName n ≡ true → all p n ≡ true
+name-bytes p f d n h = rw (join-split 46 n) at (all-between p 46 d (split 46 n) (all-more isLabel (all p) (label-bytes p f) (split 46 n) (name-labels n h)))
 
 -- what follows the first dot of a name is a name
 pub name-after : (n : List ℕ) → isName n ≡ true → indexOf 46 n < length n → isName (afterFirst n) ≡ true

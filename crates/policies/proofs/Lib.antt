@@ -15,3 +15,4 @@ pub mod Begins
 pub mod Diagnosis
 pub mod Sanity
 mod Worked
+pub mod Parts

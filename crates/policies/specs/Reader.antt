@@ -131,9 +131,13 @@ takeLine h x r l = cond (isLine l) (takeField h x r (kindOf (nameOf l)) (valueOf
 unfoldable pub lineEnd : List ℕ → ℕ → ℕ
 lineEnd s at = at + indexOf LF (drop at s)
 
+-- the line that begins at `at` and whose LF, or the body's end, stands at e
+abbrev pub lineTo : List ℕ → ℕ → ℕ → List ℕ
+lineTo s at e = take (textEnd s at e - at) (drop at s)
+
 -- the line that begins at `at`
 unfoldable pub lineAt : List ℕ → ℕ → List ℕ
-lineAt s at = take (textEnd s at (lineEnd s at) - at) (drop at s)
+lineAt s at = lineTo s at (lineEnd s at)
 
 -- what a line does, with the place where the next one begins
 unfoldable pub placed : Step → ℕ → Turn

@@ -6,15 +6,16 @@ ghost use lib.ListN.{length, drop};
 ghost use Rattle.lists.specs.Bytes.{all};
 ghost use Rattle.lists.specs.Span.{spanOf};
 ghost use Rattle.lists.specs.Split.{indexOf};
+ghost use Rattle.lists.specs.Text.{text};
 ghost use Rattle.lists.specs.Words.{eightAt, marks};
 ghost use Rattle.names.specs.Name.{someMatches};
 ghost use Rattle.fields.specs.declared.Field.{Field};
 ghost use Rattle.fields.specs.Name.{hasName, fieldAt};
 ghost use Rattle.policies.specs.Texts.{printable, isText};
 ghost use Rattle.policies.specs.declared.Checked.{Checked};
-ghost use Rattle.policies.specs.Fields.{modeOf, ageOf, valueOf};
+ghost use Rattle.policies.specs.Fields.{modeOf, ageOf, isNamed, valueOf};
 ghost use Rattle.policies.specs.Policy.{modeNumber, causeNumber, refusedAt, refused, faultAnswer, policyAnswer, patternsOf, policyFor};
-ghost use Rattle.policies.specs.Reader.{strippedValue, textEnd, kindOf, heldMode, heldAge, holdsMode, modeHeld, takeVersion, takeMode, takeAge, takeMx, takeField, takeLine, turnAt, checked, enough, accepted, seenAnswer, forHost};
+ghost use Rattle.policies.specs.Reader.{strippedValue, textEnd, lineTo, lineAt, kindOf, heldMode, heldAge, holdsMode, modeHeld, takeVersion, takeMode, takeAge, takeMx, takeField, takeLine, turnAt, checked, enough, accepted, seenAnswer, forHost};
 use fields::Field;
 use names::Pattern;
 
@@ -662,4 +663,51 @@ pub fn read_policy_for(body: &[u8], host: &[u8]) -> PolicyFor
     ensures { λ r. ⌜ r ≡ policyFor (now (body .entry)) (now (host .entry)) ⌝ }
 {
     read_body(body, host, false)
+}
+
+// The line of a body that begins at a place, and whose LF, or the body's end, stands at `end`.
+pub fn line_to(s: &[u8], at: usize, end: usize) -> &[u8]
+    ensures { λ r. ⌜ now r ≡ lineTo (now (s .entry)) at end ⌝ }
+{
+    if s.len() <= at {
+        return &s[0..0];
+    }
+    if end <= at {
+        return &s[at..at];
+    }
+    if s.len() < end {
+        return &s[at..];
+    }
+    let text = text_end(s, at, end);
+    &s[at..text]
+}
+
+// Whether the line of a body that begins at a place is named `mx`. Its end need not be known for that.
+pub fn is_mx_at(s: &[u8], at: usize) -> bool
+    ensures { λ r. ⌜ r ≡ isNamed (text "mx") (lineAt (now (s .entry)) at) ⌝ }
+{
+    if s.len() < at {
+        return false;
+    }
+    if s.len() - at < 3 {
+        return false;
+    }
+    if s[at] != b'm' {
+        return false;
+    }
+    if s[at + 1] != b'x' {
+        return false;
+    }
+    s[at + 2] == b':'
+}
+
+// The value of a line; nothing where it has no colon.
+pub fn line_value(line: &[u8]) -> &[u8]
+    ensures { λ r. ⌜ now r ≡ valueOf (now (line .entry)) ⌝ }
+{
+    let colon = lists::find(line, b':', 0);
+    if line.len() <= colon {
+        return &line[0..0];
+    }
+    value_of(line, colon)
 }

@@ -8,6 +8,7 @@ ghost use Rattle.cache.specs.Lookup.{lookupAnswer};
 ghost use Rattle.hosts.specs.Arguments.{argumentsOf};
 ghost use Rattle.hosts.specs.Demands.{Judged};
 ghost use Rattle.policies.specs.Policy.{policyAnswer};
+ghost use Rattle.publish.specs.Calls.{writeTxtAnswer, writeTxtOutput, writePolicyAnswer, writePolicyOutput, rewriteAnswer, rewriteOutput};
 ghost use Rattle.txt.specs.Txt.{readTxt, wroteTxt};
 ghost use Rattle.tweedstork.specs.Calls.{nextHostAnswer, version};
 use cache::CacheAnswer;
@@ -25,7 +26,7 @@ use writing::WriteAnswer;
 pub extern "C" fn tweedstork_version() -> u64
     ensures { λ r. ⌜ r ≡ version ⌝ }
 {
-    10400
+    10500
 }
 
 // Which MTA-STS record do these TXT RDATAs hold, and what is its id?
@@ -208,4 +209,37 @@ pub extern "C" fn tweedstork_cache_lookup(
     let start = cache::begin(n, texts.len());
     let found = cache::scan(true, clock, domain, start, table, texts);
     cache::lookup_answer(clock, domain, n, texts, found)
+}
+
+// The text of the TXT record that says which policy a domain has.
+#[no_mangle]
+pub extern "C" fn tweedstork_write_txt(id: &[u8], output: &mut [u8]) -> WriteAnswer
+    ensures { λ r. ⌜ r ≡ writeTxtAnswer (now (id .entry)) (length (now (output .entry))) ⌝ }
+    ensures { λ _. ⌜ now (output .exit) ≡ writeTxtOutput (now (id .entry)) (now (output .entry)) ⌝ }
+{
+    publish::write_txt(id, output)
+}
+
+// The body of a policy with this mode, this lifetime and these patterns.
+#[no_mangle]
+pub extern "C" fn tweedstork_write_policy(
+    mode: u64,
+    lifetime: u64,
+    patterns: &[u8],
+    pattern_lengths: &[u8],
+    output: &mut [u8],
+) -> WriteAnswer
+    ensures { λ r. ⌜ r ≡ writePolicyAnswer mode lifetime (now (patterns .entry)) (now («pattern_lengths» .entry)) (length (now (output .entry))) ⌝ }
+    ensures { λ _. ⌜ now (output .exit) ≡ writePolicyOutput mode lifetime (now (patterns .entry)) (now («pattern_lengths» .entry)) (now (output .entry)) ⌝ }
+{
+    publish::write_policy(mode, lifetime, patterns, pattern_lengths, output)
+}
+
+// The body of the policy that a body says, and no other field of it.
+#[no_mangle]
+pub extern "C" fn tweedstork_rewrite_policy(body: &[u8], output: &mut [u8]) -> WriteAnswer
+    ensures { λ r. ⌜ r ≡ rewriteAnswer (now (body .entry)) (length (now (output .entry))) ⌝ }
+    ensures { λ _. ⌜ now (output .exit) ≡ rewriteOutput (now (body .entry)) (now (output .entry)) ⌝ }
+{
+    publish::rewrite_policy(body, output)
 }

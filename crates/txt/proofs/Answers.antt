@@ -6,16 +6,14 @@ use mathlib.Core.List.{List, []}
 use mathlib.Core.Option.{Option, none, some}
 use native.Mathlib.Omega.{arith}
 use lib.Dec.{leb}
-use lib.ListN.{length, getD, take, drop, length-drop}
-use lib.Seq.{length-take-le}
+use lib.ListN.{length, take, drop, length-drop}
+use lib.Seq.{length-take-le, take-length}
 use borrow.Author.Needs.{needs}
 use borrow.Author.Tests.{not-true, not-false, le-leb, lt-leb}
 use Rattle.lists.specs.Bytes.{within, all}
 use Rattle.lists.specs.Equal.{sameBytes}
 use Rattle.lists.specs.Span.{spanOf, begins}
 use Rattle.lists.specs.Text.{text}
-use Rattle.lists.proofs.Laws.{tests}
-use Rattle.lists.proofs.All.{all-next, all-fail, all-end}
 use Rattle.lists.proofs.Span.{span-reaches}
 use Rattle.fields.specs.Name.{letterOrDigit}
 use Rattle.txt.specs.declared.TxtAnswer.{TxtAnswer}
@@ -25,17 +23,23 @@ use Rattle.txt.specs.Grammar.{version, nameOf, afterName, valueOf, oneMo
 use Rattle.txt.specs.Txt.{refusal, recordAnswer}
 use Rattle.txt.specs.Steps.{StepIs, FieldIs, hasForm, idAnswer}
 
--- `is_id`
-module _ (v : List ℕ) (i : ℕ) (inv : all letterOrDigit v ≡ all letterOrDigit (drop i v)) where
-  pub id-bad : (r : Bool) → i < length v → r ≡ letterOrDigit (getD v i 0) → r ≡ false → false ≡ isId v
+-- `is_id`: w is where `letters_end` found the end of the letters and digits
+module _ (v : List ℕ) where
+  pub id-none : length v < 1 → false ≡ isId v
   unfolding isId
-  id-bad r h e t = rw (all-fail letterOrDigit v i inv h r e t) (sym (and-false (within 1 32 (length v))))
+  id-none h = rw (lt-leb 1 (length v) h)
 
-  pub id-good : length v ≤ i → 1 ≤ length v → length v ≤ 32 → true ≡ isId v
+  pub id-long : 32 < length v → false ≡ isId v
   unfolding isId
-  id-good h small large = rw (all-end letterOrDigit v i inv h) (search tests)
+  id-long h = rw (lt-leb (length v) 32 h, and-false (leb 1 (length v)))
 
-pub ruleset id-laws = (id-bad, id-good, all-next, not-true, not-false, needs)
+  pub id-letters-alone : 1 ≤ length v → length v ≤ 32 → (w : ℕ) → w ≡ 0 + spanOf letterOrDigit (drop 0 v) → leb (length v) w ≡ isId v
+  unfolding isId
+  id-letters-alone small large w e =
+      let k : w ≡ spanOf letterOrDigit v = omega arith in
+      rw (le-leb 1 (length v) small, le-leb (length v) 32 large, k, span-reaches letterOrDigit v (length v) (omega arith), take-length v)
+
+pub ruleset id-laws = (id-none, id-long, id-letters-alone, needs)
 
 -- one field more changes neither the form, nor the field of the id where it is not named `id`
 form-more : (f : List ℕ) (o : Option (List (List ℕ))) → hasForm (oneMore f o) ≡ hasForm o

@@ -1,6 +1,6 @@
 -- The reader reads exactly document 01's grammar, with its names and values: the grammar answers 6 exactly for the texts of a `Record`, and hands back its id.
 -- Assumes nothing.
-use Prim.Native.Nat.{ℕ, zero, suc}
+use Prim.Native.Nat.{ℕ, zero, suc, _≤_}
 use mathlib.Core.Path.{_≡_, refl, sym, ap, subst, _∙_}
 use mathlib.Core.Bool.{Bool, true, false, cond, _&&_}
 use mathlib.Core.List.{List, [], _∷_, _++_, map, append-nil}
@@ -15,7 +15,8 @@ use Rattle.lists.specs.Bytes.{within, all}
 use Rattle.lists.specs.Equal.{sameBytes}
 use Rattle.lists.specs.Span.{spanOf, begins}
 use Rattle.lists.specs.Text.{text}
-use Rattle.lists.proofs.Bools.{and-left, and-right, never}
+use Rattle.lists.proofs.Bools.{and-left, and-right, and-both, never}
+use Rattle.lists.proofs.Laws.{within-true}
 use Rattle.lists.proofs.Span.{span-all, begins-whole, begins-joined, span-append}
 use Rattle.fields.specs.Blank.{blank, afterBlanks}
 use Rattle.fields.specs.Name.{letterOrDigit, nameByte, isFieldName, hasName}
@@ -29,6 +30,14 @@ use Rattle.txt.proofs.Places.{HasId, has-id, id-has, id-value}
 -- the name and the value of a field
 pub pair : List ℕ → Pair
 pair f = record { name = nameOf f; value = valueOf f }
+
+-- an id has 1 to 32 bytes, all of them letters or digits
+pub id-parts : (i : List ℕ) → isId i ≡ true → (1 ≤ length i) × (length i ≤ 32) × (all letterOrDigit i ≡ true)
+unfolding isId
+id-parts i h =
+    let k = and-both (within 1 32 (length i)) (all letterOrDigit i) h in
+    let w = within-true 1 32 (length i) (k .0) in
+    (w .0, w .1, k .1)
 
 -- ---- what is read is of the grammar
 

@@ -347,15 +347,8 @@ pub fn is_id(v: &[u8]) -> bool
     if 32 < v.len() {
         return false;
     }
-    let mut i = 0;
-    while i < v.len() {
-        let good = fields::is_letter_or_digit(v[i]);
-        if !good {
-            return false;
-        }
-        i += 1;
-    }
-    true
+    let end = fields::letters_end(v, 0);
+    v.len() <= end
 }
 
 // Whether what follows the version or a field, from `from` on, is of the form.

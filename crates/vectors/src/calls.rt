@@ -1,5 +1,6 @@
 // The calls of the library that a case can make. A new call is a function here, named in `run`: it asks that the line's
 // fields be of the right kinds (w a word, n a number, b bytes, = the sign `=>`), makes the call and compares the answers.
+// Those that write to an output have these steps in common (`with_output`), and a new one is named in `answered` too.
 // The facts of a host are given by name: facts.rt. The calls on a cache go on from what the lines before them left: history.rt.
 use crate::facts;
 use crate::facts::Found;
@@ -9,8 +10,9 @@ use crate::line::bytes_at;
 use crate::line::has_kinds_at;
 use crate::line::name;
 use crate::line::number_at;
+use crate::line::part;
 use libc::STDOUT_FILENO;
-use txt::TxtAnswer;
+use writing::WriteAnswer;
 
 // What a line came to. Where a case differs, a line that says so has been written.
 pub enum Outcome {
@@ -19,6 +21,14 @@ pub enum Outcome {
     Unreadable,
     // a line that is no case, but prepares those after it
     SetUp,
+}
+
+// The calls that write to an output.
+pub enum Writer {
+    ReadTxt,
+    WriteTxt,
+    WritePolicy,
+    RewritePolicy,
 }
 
 // The numbers of an answer, in the order of its struct, and zeros after them.
@@ -31,7 +41,7 @@ pub struct Answer {
 // the fields of the default that holds for the line.
 pub(crate) fn run(s: &[u8], f: Fields, d: Fields) -> Outcome {
     let found = facts::item_of(
-        b"read_txt;read_policy;judge_host;next_host",
+        b"read_txt;read_policy;judge_host;next_host;write_txt;write_policy;rewrite_policy",
         b';',
         bytes_at(s, f, 0),
     );
@@ -40,55 +50,71 @@ pub(crate) fn run(s: &[u8], f: Fields, d: Fields) -> Outcome {
     };
     let place = call.place;
     match place {
-        0 => read_txt(s, f),
+        0 => with_output(s, f, Writer::ReadTxt, b"wwbbb=nnnb", 4),
         1 => read_policy(s, f),
         2 => judge_host(s, f, d),
-        _ => next_host(s, f),
+        3 => next_host(s, f),
+        4 => with_output(s, f, Writer::WriteTxt, b"wwbb=nnb", 3),
+        5 => with_output(s, f, Writer::WritePolicy, b"wwnnbbb=nnb", 6),
+        _ => with_output(s, f, Writer::RewritePolicy, b"wwbb=nnb", 3),
     }
 }
 
-// The most bytes that a case lends as output.
-const OUTPUT_ROOM: usize = 4096;
+// The most bytes that a case lends as output: more than the largest policy has that is written, 4,207.
+const OUTPUT_ROOM: usize = 4352;
 
-fn read_txt(s: &[u8], f: Fields) -> Outcome {
-    if !has_kinds_at(f, 0, f.count, b"wwbbb=nnnb") {
+// A call that writes to an output. Field k, its last argument, is the whole output before the call; `=>`, the answer's numbers and
+// the whole output after the call follow.
+fn with_output(s: &[u8], f: Fields, call: Writer, kinds: &[u8], k: usize) -> Outcome {
+    if !has_kinds_at(f, 0, f.count, kinds) {
         return Outcome::Unreadable;
     }
     let mut room = [0u8; OUTPUT_ROOM];
-    read_txt_in(s, f, &mut room)
+    with_output_in(s, f, call, k, &mut room)
 }
 
-// Lends the output as it is before the call: an argument.
-fn read_txt_in(s: &[u8], f: Fields, room: &mut [u8]) -> Outcome {
-    let before = bytes_at(s, f, 4);
+fn with_output_in(s: &[u8], f: Fields, call: Writer, k: usize, room: &mut [u8]) -> Outcome {
+    let before = bytes_at(s, f, k);
     let n = before.len();
-    if room.len() < n {
+    let count = f.count;
+    if n > room.len() {
         return Outcome::Unreadable;
     }
-    read_txt_into(s, f, before, &mut room[0..n])
-}
-
-fn read_txt_into(s: &[u8], f: Fields, before: &[u8], output: &mut [u8]) -> Outcome {
-    if output.len() < before.len() {
+    if k >= MOST_FIELDS {
         return Outcome::Unreadable;
     }
-    bytes::copy(before, output);
-    let r = tweedstork::tweedstork_read_txt(bytes_at(s, f, 2), bytes_at(s, f, 3), output);
-    compared_txt(s, f, r, output)
+    if count == 0 {
+        return Outcome::Unreadable;
+    }
+    bytes::copy(before, room);
+    let got = answered(s, f, call, &mut room[0..n]);
+    if !check::same(part(room, 0, n), bytes_at(s, f, count - 1)) {
+        return differs(name(s, f), b": output differs\n");
+    }
+    compared(name(s, f), expected_at(f, k + 2, got.count), got)
 }
 
-// The last field of the answer is the whole output after the call.
-fn compared_txt(s: &[u8], f: Fields, r: TxtAnswer, output: &[u8]) -> Outcome {
-    if !check::same(output, bytes_at(s, f, 9)) {
-        io::write_all(STDOUT_FILENO, name(s, f));
-        io::write_all(STDOUT_FILENO, b": output differs\n");
-        return Outcome::Differs;
+fn answered(s: &[u8], f: Fields, call: Writer, output: &mut [u8]) -> Answer {
+    let a = bytes_at(s, f, 2);
+    match call {
+        Writer::ReadTxt => {
+            let r = tweedstork::tweedstork_read_txt(a, bytes_at(s, f, 3), output);
+            answer_of(3, r.number, r.id_start, r.id_length, 0)
+        }
+        Writer::WriteTxt => written(tweedstork::tweedstork_write_txt(a, output)),
+        Writer::WritePolicy => written(tweedstork::tweedstork_write_policy(
+            number_at(f, 2),
+            number_at(f, 3),
+            bytes_at(s, f, 4),
+            bytes_at(s, f, 5),
+            output,
+        )),
+        Writer::RewritePolicy => written(tweedstork::tweedstork_rewrite_policy(a, output)),
     }
-    compared(
-        name(s, f),
-        expected_at(f, 6, 3),
-        answer_of(3, r.number, r.id_start, r.id_length, 0),
-    )
+}
+
+fn written(r: WriteAnswer) -> Answer {
+    answer_of(2, r.number, r.length, 0, 0)
 }
 
 fn read_policy(s: &[u8], f: Fields) -> Outcome {
@@ -194,6 +220,13 @@ pub(crate) fn answer_of(count: usize, a: u64, b: u64, c: u64, d: u64) -> Answer 
         count: count,
         numbers: [a, b, c, d, 0, 0],
     }
+}
+
+// Says what of a case differs.
+pub(crate) fn differs(case: &[u8], what: &[u8]) -> Outcome {
+    io::write_all(STDOUT_FILENO, case);
+    io::write_all(STDOUT_FILENO, what);
+    Outcome::Differs
 }
 
 // Compares a case's answers, and says where they differ.

@@ -13,6 +13,7 @@ use crate::calls;
 use crate::calls::Outcome;
 use crate::calls::answer_of;
 use crate::calls::compared;
+use crate::calls::differs;
 use crate::calls::expected_at;
 use crate::facts;
 use crate::facts::Found;
@@ -25,7 +26,6 @@ use crate::line::part;
 use cache::CacheAnswer;
 use cache::CacheEntry;
 use lending::Stored;
-use libc::STDOUT_FILENO;
 use std::num::wrapping_add_u64;
 
 // The most entries of a table and the most bytes of texts that a case can lend: one more than a cache has.
@@ -262,12 +262,6 @@ fn has_text(r: CacheAnswer, texts: &[u8], text: &[u8]) -> bool {
     let end = wrapping_add_u64(r.text_start, r.text_length);
     r.text_length == text.len() as u64
         && check::same(part(texts, r.text_start as usize, end as usize), text)
-}
-
-fn differs(case: &[u8], what: &[u8]) -> Outcome {
-    io::write_all(STDOUT_FILENO, case);
-    io::write_all(STDOUT_FILENO, what);
-    Outcome::Differs
 }
 
 // The entry of a line whose fields 3 and 4 are domain and id.

@@ -43,6 +43,8 @@ fn main() {
     let c = run_file(b"next_host.cases", c);
     let c = run_file(b"cache.cases", c);
     let c = run_file(b"cache_limits.cases", c);
+    let c = run_file(b"publish.cases", c);
+    let c = run_file(b"publish_limits.cases", c);
     io::print_decimal(STDOUT_FILENO, c.passed);
     io::write_all(STDOUT_FILENO, b" passed, ");
     io::print_decimal(STDOUT_FILENO, c.failed);

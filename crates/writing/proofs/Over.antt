@@ -1,10 +1,10 @@
--- Laws of a text written into lent memory from a place on. Assumes nothing.
+-- Laws of texts written into lent memory from a place on: where one stands, and that one after another is the whole. Assumes nothing.
 use Prim.Native.Nat.{ℕ, _+_, _-_, _<_, _≤_}
 use mathlib.Core.Path.{_≡_, sym, ap, _∙_}
-use mathlib.Core.List.{List, [], _∷_, _++_, append-nil}
+use mathlib.Core.List.{List, [], _∷_, _++_, append-assoc, append-nil}
 use native.Mathlib.Omega.{arith}
 use lib.ListN.{length, take, drop, length-append, length-drop, take-append-drop, drop-of-length-le}
-use lib.Seq.{length-take-le, take-append-seam, take-append-le, drop-append-le, drop-append-add, drop-at, take-take, drop-drop}
+use lib.Seq.{length-take-le, take-append-seam, take-append-le, take-at, drop-append-le, drop-append-add, drop-at, take-take, drop-drop}
 use borrow.Author.Needs.{needs}
 use borrow.Author.Tests.{lt-leb, le-leb}
 use Rattle.lists.specs.Write.{wroteFront}
@@ -42,6 +42,9 @@ module _ (at : ℕ) (t d : List ℕ) (fits : at + length t ≤ length d) where
   unfolding over wroteFront
   over-is = rw (le-leb (length t) (length (drop at d)) (omega (arith, length-drop at d, fits)))
 
+  pub over-fits : over at t d ≡ take at d ++ (t ++ drop (at + length t) d)
+  over-fits = over-is ∙ rw (drop-drop (length t) at d)
+
   pub over-length : length (over at t d) ≡ length d
   over-length =
       ap length over-is
@@ -71,3 +74,48 @@ module _ (at : ℕ) (t d : List ℕ) (fits : at + length t ≤ length d) where
       ∙ (drop-append-add t r (m - at - length t)
       ∙ (drop-drop (m - at - length t) (length t) (drop at d)
       ∙ (drop-drop (length t + (m - at - length t)) at d ∙ ap (λ (j : ℕ). drop j d) b)))))
+
+-- a text in two parts: the one over the front, and the other after it, either first
+module _ (at : ℕ) (p q d : List ℕ) (h : at + length (p ++ q) ≤ length d) where
+  both-fit : at + length p + length q ≤ length d
+  both-fit = omega (arith, length-append p q)
+
+  first-fits : at + length p ≤ length d
+  first-fits = omega (arith, both-fit)
+
+  front-size : length (take at d ++ p) ≡ at + length p
+  front-size = omega (arith, length-append (take at d) p, length-take-le at d (omega (arith, both-fit)), both-fit)
+
+  -- all of it, as one text
+  whole : over at (p ++ q) d ≡ (take at d ++ p) ++ (q ++ drop (at + length p + length q) d)
+  whole =
+      let k : at + length (p ++ q) ≡ at + length p + length q = omega (arith, length-append p q) in
+      over-fits at (p ++ q) d h ∙ rw (k, append-assoc p q (drop (at + length p + length q) d)) (sym (append-assoc (take at d) p (q ++ drop (at + length p + length q) d)))
+
+  pub over-then : over (at + length p) q (over at p d) ≡ over at (p ++ q) d
+  over-then =
+      let e : over at p d ≡ (take at d ++ p) ++ drop (at + length p) d = over-fits at p d first-fits ∙ sym (append-assoc (take at d) p (drop (at + length p) d)) in
+      let g : at + length p + length q ≤ length (over at p d) = omega (arith, both-fit, over-length at p d first-fits) in
+      let r : drop (at + length p + length q) ((take at d ++ p) ++ drop (at + length p) d) ≡ drop (at + length p + length q) d = sym (drop-drop (length q) (at + length p) ((take at d ++ p) ++ drop (at + length p) d)) ∙ rw (drop-at (take at d ++ p) (drop (at + length p) d) (at + length p) front-size, drop-drop (length q) (at + length p) d) in
+      over-fits (at + length p) q (over at p d) g
+      ∙ rw (e, take-at (take at d ++ p) (drop (at + length p) d) (at + length p) front-size, r, whole)
+
+  pub over-last-first : over at p (over (at + length p) q d) ≡ over at (p ++ q) d
+  over-last-first =
+      let e : over (at + length p) q d ≡ take (at + length p) d ++ (q ++ drop (at + length p + length q) d) = over-fits (at + length p) q d both-fit in
+      let n : length (take (at + length p) d) ≡ at + length p = length-take-le (at + length p) d first-fits in
+      let g : at + length p ≤ length (over (at + length p) q d) = omega (arith, both-fit, over-length (at + length p) q d both-fit) in
+      over-fits at p (over (at + length p) q d) g
+      ∙ rw (e, drop-at (take (at + length p) d) (q ++ drop (at + length p + length q) d) (at + length p) n, take-append-le at (take (at + length p) d) (q ++ drop (at + length p + length q) d) (omega (arith, n)), take-take at (at + length p) d (omega arith), whole)
+      (sym (append-assoc (take at d) p (q ++ drop (at + length p + length q) d)))
+
+-- a piece p of a text, and what follows it: x is the slice once p is written, b the place where p ends
+module _ (at b : ℕ) (p q d x : List ℕ) (wrote : x ≡ over at p d) (ends : b ≡ at + length p) (h : at + length (p ++ q) ≤ length d) where
+  pub step-is : over at (p ++ q) d ≡ over b q x
+  step-is = rw (wrote, ends) (sym (over-then at p q d h))
+
+  pub step-fits : b + length q ≤ length x
+  step-fits = rw wrote (omega (arith, length-append p q, over-length at p d (omega (arith, length-append p q))))
+
+  pub step-length : length x ≡ length d
+  step-length = rw wrote (over-length at p d (omega (arith, length-append p q)))

@@ -1,2 +1,3 @@
 pub mod Over
+pub mod Decimal
 pub mod Answer

@@ -1,5 +1,6 @@
 //! The arguments of a call in words, for the report on a difference.
 
+use crate::boundary::PolicyCall;
 use crate::caches::{Cache, Call};
 use independent_rules::cache::{Entry, ROOM};
 use independent_rules::rules::HostCall;
@@ -61,6 +62,26 @@ pub fn host(c: &HostCall) -> String {
 
 pub fn message(lookup: u64, preferences: &[u8], verdicts: &[u8]) -> String {
     format!("  mx_lookup {lookup}\n  preferences {}\n  verdicts {}", hex(preferences), hex(verdicts))
+}
+
+/// Bytes that are shown as text.
+#[derive(PartialEq)]
+pub struct Shown(pub Vec<u8>);
+
+impl std::fmt::Debug for Shown {
+    fn fmt(&self, f: &mut std::fmt::Formatter) -> std::fmt::Result {
+        write!(f, "[{}] \"{}\"", self.0.len(), self.0.escape_ascii())
+    }
+}
+
+/// A slice by its name.
+pub fn shown(name: &str, s: &[u8]) -> String {
+    format!("  {name} [{}] \"{}\"\n", s.len(), s.escape_ascii())
+}
+
+pub fn policy_call(c: &PolicyCall) -> String {
+    let numbers = format!("  mode {}\n  lifetime {}\n", c.mode, c.lifetime);
+    [numbers, shown("patterns", &c.patterns), format!("  pattern_lengths {}\n", hex(&c.pattern_lengths))].concat()
 }
 
 /// Long ones are cut.

@@ -8,6 +8,7 @@
 use crate::random::Random;
 use independent_rules::cache::{Entry, LookupAnswer, StoreAnswer};
 use independent_rules::exports::{Host, Message, Txt, Write};
+use independent_rules::publish::WriteAnswer;
 use independent_rules::rules::{HostAnswer, HostCall, MessageAnswer, PolicyAnswer, TxtAnswer};
 use std::cell::Cell;
 use std::ffi::c_void;
@@ -68,6 +69,18 @@ extern "C" {
         domain: *const u8, domain_length: usize,
         table: *const Entry, table_length: usize,
         texts: *const u8, texts_length: usize) -> LookupAnswer;
+    fn tweedstork_write_txt(
+        id: *const u8, id_length: usize,
+        output: *mut u8, output_length: usize) -> Write;
+    fn tweedstork_write_policy(
+        mode: u64,
+        lifetime: u64,
+        patterns: *const u8, patterns_length: usize,
+        pattern_lengths: *const u8, pattern_lengths_length: usize,
+        output: *mut u8, output_length: usize) -> Write;
+    fn tweedstork_rewrite_policy(
+        body: *const u8, body_length: usize,
+        output: *mut u8, output_length: usize) -> Write;
 }
 
 extern "C" {
@@ -302,6 +315,56 @@ impl Lender {
         slices.iter().for_each(|(slot, s)| self.check(*slot, s, place));
         a
     }
+
+    /// The output is copied back.
+    pub fn write_txt(&mut self, id: &[u8], output: &mut [u8], place: Place) -> WriteAnswer {
+        let (i, o) = (self.lend(0, id, place), self.lend(1, output, place));
+        // SAFETY: valid slices that don't overlap.
+        let a = unsafe { tweedstork_write_txt(i, id.len(), o, output.len()) };
+        self.take_back(1, output, place);
+        self.check(0, id, place);
+        (a.number, a.length)
+    }
+
+    /// The output is copied back.
+    pub fn write_policy(&mut self, c: &PolicyCall, output: &mut [u8], place: Place) -> WriteAnswer {
+        let (p, o, l) = (self.lend(0, &c.patterns, place), self.lend(1, output, place), self.lend(2, &c.pattern_lengths, place));
+        // SAFETY: valid slices that don't overlap.
+        #[rustfmt::skip]
+        let a = unsafe {
+            tweedstork_write_policy(
+                c.mode, c.lifetime, p, c.patterns.len(), l, c.pattern_lengths.len(), o, output.len())
+        };
+        self.take_back(1, output, place);
+        self.check(0, &c.patterns, place);
+        self.check(2, &c.pattern_lengths, place);
+        (a.number, a.length)
+    }
+
+    /// The output is copied back.
+    pub fn rewrite_policy(&mut self, body: &[u8], output: &mut [u8], place: Place) -> WriteAnswer {
+        let (b, o) = (self.lend(0, body, place), self.lend(1, output, place));
+        // SAFETY: valid slices that don't overlap.
+        let a = unsafe { tweedstork_rewrite_policy(b, body.len(), o, output.len()) };
+        self.take_back(1, output, place);
+        self.check(0, body, place);
+        (a.number, a.length)
+    }
+
+    /// The output becomes what stands in its copy. Panics if a byte beside that has changed.
+    fn take_back(&mut self, slot: usize, output: &mut [u8], place: Place) {
+        output.copy_from_slice(self.parts(slot, output.len(), place)[1]);
+        self.check(slot, output, place);
+    }
+}
+
+/// The arguments of a policy that is to be written, but for the output.
+#[derive(Clone, Debug)]
+pub struct PolicyCall {
+    pub mode: u64,
+    pub lifetime: u64,
+    pub patterns: Vec<u8>,
+    pub pattern_lengths: Vec<u8>,
 }
 
 /// The arguments of a store, but for table and texts.

@@ -13,7 +13,7 @@ use std::collections::BTreeMap;
 use std::time::Instant;
 
 /// What a case came to, by name: each has to come.
-type Counts = BTreeMap<&'static str, u64>;
+pub type Counts = BTreeMap<&'static str, u64>;
 
 const FOUND: &str = "lookups of another domain that find a text";
 const NOT_FOUND: &str = "lookups of another domain that find none";
@@ -25,8 +25,20 @@ const TEXTS: &str = "answers with a text";
 const MOVED: &str = "answers with the text in another place";
 const ALL: [&str; 8] = [FOUND, NOT_FOUND, TAKEN, FULL, RUNS, REFUSED, TEXTS, MOVED];
 
-fn count(counts: &mut Counts, what: &'static str, n: usize) {
+pub fn count(counts: &mut Counts, what: &'static str, n: usize) {
     *counts.entry(what).or_insert(0) += n as u64;
+}
+
+/// Prints all of them. Each has to come at least so often, else the program ends.
+pub fn report(counts: &Counts, all: &[&str], at_least: u64) {
+    for what in all {
+        let n = counts.get(what).copied().unwrap_or(0);
+        println!("  {what}: {n}");
+        if n < at_least {
+            println!("FAILED: too few {what}");
+            std::process::exit(1);
+        }
+    }
 }
 
 /// What a call answers; of a lookup also the text itself.
@@ -245,13 +257,6 @@ pub fn run(lender: &mut Lender, seed: u64, cases: u64) -> u64 {
         }
     }
     println!("claims on the cache: {cases} cases of each in {:.1} s", begun.elapsed().as_secs_f64());
-    for what in ALL {
-        let n = counts.get(what).copied().unwrap_or(0);
-        println!("  {what}: {n}");
-        if n * 100 < cases {
-            println!("FAILED: too few {what}");
-            std::process::exit(1);
-        }
-    }
+    report(&counts, &ALL, cases.div_ceil(100));
     2 * cases
 }

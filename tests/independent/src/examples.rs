@@ -1,10 +1,12 @@
 //! Document 01's "Cases on both sides" and a few more, and cases of document 02, with their answers written down: they hold the
 //! rules here and the library to the papers themselves, not only to each other.
 
-use crate::boundary::{Lender, Place, Side, StoreCall};
+use crate::arguments::Shown;
+use crate::boundary::{Lender, Place, PolicyCall, Side, StoreCall};
 use crate::caches::Cache;
-use crate::inputs::list;
+use crate::inputs::{lengths_of, list};
 use independent_rules::cache::{self, Entry, LookupAnswer, ROOM};
+use independent_rules::publish::{self, WriteAnswer};
 use independent_rules::rules::{self, HostCall, PolicyAnswer, TlsaAnswer};
 
 const MIDDLE: Place = Place { side: Side::Open(0), turn: 0 };
@@ -103,6 +105,53 @@ impl Check<'_> {
             }
         }
         self.same(&format!("lookup of {domain} at {clock}"), expected, ours, theirs);
+    }
+
+    /// A call that writes, into outputs of several sizes. Wanted is the text, which is written wherever there is room, else 83; or
+    /// the refusal that comes before 83.
+    fn written(
+        &mut self,
+        what: &str,
+        wanted: Result<&str, u64>,
+        ours: impl Fn(&mut [u8]) -> WriteAnswer,
+        theirs: impl Fn(&mut Lender, &mut [u8]) -> WriteAnswer,
+    ) {
+        let length = wanted.map_or(45, str::len);
+        for room in [0, length - 1, length, length + 1, 4208] {
+            let mut expected = vec![0xee; room];
+            let answer = match wanted {
+                Err(number) => (number, 0),
+                Ok(_) if room < length => (83, 0),
+                Ok(text) => {
+                    expected[..length].copy_from_slice(text.as_bytes());
+                    (15, length as u64)
+                }
+            };
+            let (mut a, mut b) = (vec![0xee; room], vec![0xee; room]);
+            let (x, y) = (ours(&mut a), theirs(self.lender, &mut b));
+            self.same(what, (answer, Shown(expected)), (x, Shown(a)), (y, Shown(b)));
+        }
+    }
+
+    fn write_txt(&mut self, id: &str, wanted: Result<&str, u64>) {
+        let id = id.as_bytes();
+        let theirs = |lender: &mut Lender, output: &mut [u8]| lender.write_txt(id, output, BEFORE_GUARD);
+        self.written("TXT text", wanted, |output| publish::write_txt(id, output), theirs);
+    }
+
+    /// The lengths are the patterns' own, and these bytes.
+    fn write(&mut self, mode: u64, lifetime: u64, patterns: &[&str], more_lengths: &[u8], wanted: Result<&str, u64>) {
+        let patterns: Vec<Vec<u8>> = patterns.iter().map(|pattern| pattern.as_bytes().to_vec()).collect();
+        let pattern_lengths = [&list(&lengths_of(&patterns)), more_lengths].concat();
+        let c = PolicyCall { mode, lifetime, patterns: patterns.concat(), pattern_lengths };
+        let ours = |output: &mut [u8]| publish::write_policy(mode, lifetime, &c.patterns, &c.pattern_lengths, output);
+        self.written("policy", wanted, ours, |lender, output| lender.write_policy(&c, output, BEFORE_GUARD));
+    }
+
+    fn rewrite(&mut self, body: &str, wanted: Result<&str, u64>) {
+        let body = body.as_bytes();
+        let theirs = |lender: &mut Lender, output: &mut [u8]| lender.rewrite_policy(body, output, BEFORE_GUARD);
+        self.written("rewritten policy", wanted, |output| publish::rewrite_policy(body, output), theirs);
     }
 }
 
@@ -337,6 +386,124 @@ fn refused_next_hops(c: &mut Check) {
     }
 }
 
+/// RFC 8461's example of a policy, from its section 3.2, and the one of its appendix A.
+const SECTION_3_2: &str = "\
+version: STSv1
+mode: enforce
+mx: mail.example.com
+mx: *.example.net
+mx: backupmx.example.com
+max_age: 604800
+";
+const APPENDIX_A: &str = "\
+version: STSv1
+mode: testing
+mx: mx1.example.com
+mx: mx2.example.com
+mx: mx.backup-example.com
+max_age: 1296000
+";
+
+/// Document 02, No. 5: "Write the TXT text `v=STSv1; id=ID;` from an id". The first is RFC 8461's, from its section 3.1.
+fn written_texts(c: &mut Check) {
+    c.write_txt("20160831085700Z", Ok("v=STSv1; id=20160831085700Z;"));
+    c.write_txt("a", Ok("v=STSv1; id=a;"));
+    c.write_txt("Z9", Ok("v=STSv1; id=Z9;"));
+    let longest = "v=STSv1; id=abcdefghijklmnopqrstuvwxyz012345;";
+    c.write_txt("abcdefghijklmnopqrstuvwxyz012345", Ok(longest));
+    c.same("the longest TXT text", 45, longest.len(), longest.len());
+    c.write_txt("abcdefghijklmnopqrstuvwxyz0123456", Err(80));
+    for id in ["", " ", "a b", "a;", "2016-08-31", "a_b", "a\n", "a\0", "\0", "\u{e9}", "=", "id=a"] {
+        c.write_txt(id, Err(80));
+    }
+}
+
+/// "and the policy body from a mode, a lifetime and 1 to 16 patterns (0 to 16 for mode none)"
+fn written_policies(c: &mut Check) {
+    c.write(1, 604_800, &["mail.example.com", "*.example.net", "backupmx.example.com"], b"", Ok(SECTION_3_2));
+    c.write(2, 1_296_000, &["mx1.example.com", "mx2.example.com", "mx.backup-example.com"], b"", Ok(APPENDIX_A));
+    c.write(3, 0, &[], b"", Ok("version: STSv1\nmode: none\nmax_age: 0\n"));
+    c.write(3, 9, &["a"], b"", Ok("version: STSv1\nmode: none\nmx: a\nmax_age: 9\n"));
+    let as_given = "version: STSv1\nmode: enforce\nmx: *.A\nmx: b\nmx: B\nmx: b\nmx: *.a\nmax_age: 10\n";
+    c.write(1, 10, &["*.A", "b", "B", "b", "*.a"], b"", Ok(as_given));
+    // As long as can be, and a byte more in each part of it.
+    let label = "a".repeat(63);
+    let name = format!("{label}.{label}.{label}.{}", "z".repeat(61));
+    let (starred, longer) = (format!("*.{name}"), format!("{name}z"));
+    let longest = format!("version: STSv1\nmode: testing\n{}max_age: 31557600\n", format!("mx: {starred}\n").repeat(16));
+    c.write(2, 31_557_600, &[&*starred; 16], b"", Ok(&longest));
+    c.same("the longest policy", 4207, longest.len(), longest.len());
+    c.write(2, 31_557_600, &[&*starred; 17], b"", Err(81));
+    c.write(2, 31_557_601, &[&*starred; 16], b"", Err(82));
+    c.write(3, 1, &[&*name], b"", Ok(&format!("version: STSv1\nmode: none\nmx: {name}\nmax_age: 1\n")));
+    c.write(3, 1, &[&*longer], b"", Err(81));
+    c.write(3, 1, &[&*format!("*.{longer}")], b"", Err(81));
+}
+
+/// 67, 81, 82 and 83, "in that order".
+fn refused_policies(c: &mut Check) {
+    for mode in [0, 4, 5, 256 + 1, (1 << 32) + 1, u64::MAX] {
+        c.write(mode, 0, &["a"], b"", Err(67));
+        c.write(mode, u64::MAX, &[""], &[0], Err(67));
+    }
+    for lifetime in [31_557_601, 99_999_999, 1 << 32, (1 << 32) + 1, u64::MAX] {
+        c.write(1, lifetime, &["a"], b"", Err(82));
+        c.write(3, lifetime, &[], b"", Err(82));
+        c.write(1, lifetime, &[], b"", Err(81));
+        c.write(3, lifetime, &["a."], b"", Err(81));
+    }
+    for mode in [1, 2] {
+        c.write(mode, 1, &[], b"", Err(81));
+    }
+    for mode in [1, 2, 3] {
+        c.write(mode, 1, &["a"; 17], b"", Err(81));
+        c.write(mode, 1, &["a"; 256 + 1], b"", Err(81));
+        for pattern in ["", "*", "*.", "*.*.a", "a.*", "a.", "-a", "a_b", " a", "a\n", "a\nmx: b", "mx: a", "\u{e9}.example"] {
+            c.write(mode, 1, &[pattern], b"", Err(81));
+            c.write(mode, 1, &["a", pattern, "b"], b"", Err(81));
+        }
+        // Left-over bytes, a length of nothing, one that is not there, and a sum that is right but for its 33rd bit.
+        for more in [&[0][..], &[0, 0], &[0, 0, 0], &[0, 0, 0, 0], &[0, 0, 0, 1], &[255, 255, 255, 255, 0, 0, 0, 1]] {
+            c.write(mode, 1, &["a", "b"], more, Err(81));
+            c.write(mode, 1, &[], more, Err(81));
+        }
+    }
+}
+
+/// "Rewriting takes a body (50 to 52, then 81 for over 16 patterns, 83) and keeps mode, lifetime and patterns in order, but no
+/// other field."
+fn rewritten_policies(c: &mut Check) {
+    for text in [SECTION_3_2, APPENDIX_A] {
+        c.rewrite(text, Ok(text));
+        c.rewrite(&text.replace('\n', "\r\n"), Ok(text));
+        c.rewrite(text.trim_end(), Ok(text));
+        c.rewrite(&text.replace(": ", ":\t ").replace('\n', " \t\r\n"), Ok(text));
+        c.rewrite(&text.replace(": ", ":"), Ok(text));
+        let further = "mode: none\nmax_age: x\nversion: STSv2\nMX: a\nmx2: b\nm: c";
+        c.rewrite(&format!("note: caf\u{e9} \u{1f4ec}\n{text}{further}"), Ok(text));
+    }
+    let none = |age: &str| format!("version: STSv1\nmode: none\nmax_age: {age}\n");
+    for (age, kept) in [("0000000000", "0"), ("0000000012", "12"), ("31557600", "31557600"), ("9999999999", "31557600")] {
+        c.rewrite(&format!("max_age:{age}\nmode:none\nversion:STSv1"), Ok(&none(kept)));
+    }
+    let with = |count: usize| format!("version: STSv1\nmode: none\n{}max_age: 1\n", "mx: *.Example.com\n".repeat(count));
+    c.rewrite(&with(16), Ok(&with(16)));
+    c.rewrite(&with(17), Err(81));
+    c.rewrite(&with(256 + 1), Err(81));
+    c.rewrite(&with(3000), Err(81));
+    // What the reader refuses, also beside 17 patterns.
+    for body in [with(1), with(17)] {
+        c.rewrite(&format!("{body}\n"), Err(53));
+        c.rewrite(&body.replace("max_age: 1\n", ""), Err(52));
+        c.rewrite(&format!("{body}x:{}", "y".repeat(65_536)), Err(50));
+        for (number, line) in CONTENT {
+            c.rewrite(&format!("{line}\n{body}"), Err(number));
+        }
+    }
+    c.rewrite("", Err(53));
+    c.rewrite("version: STSv1\nmode: enforce\nmax_age: 1\n", Err(52));
+}
+
 pub fn run(lender: &mut Lender) -> u64 {
     let mut c = Check { lender, passed: 0 };
     let cache = cached(&mut c);
@@ -420,6 +587,11 @@ pub fn run(lender: &mut Lender) -> u64 {
 
     expanded_next_hops(&mut c);
     refused_next_hops(&mut c);
+
+    written_texts(&mut c);
+    written_policies(&mut c);
+    refused_policies(&mut c);
+    rewritten_policies(&mut c);
 
     // "Preferences A 20, B 10, C 10 and verdicts A 9, B 22, C 24: 8 with A. With C 9: 8 with C. With A 26, B 22, C 24: 31."
     c.message(&[20, 10, 10], &[9, 22, 24], (8, 0));

@@ -2,6 +2,7 @@
 //! They are for the fuzz targets and the benchmark, which link this package's archive beside the library's.
 
 use crate::cache::{self, Entry, LookupAnswer};
+use crate::publish;
 use crate::rules::{self, HostCall, PolicyAnswer, TlsaAnswer};
 
 #[repr(C)]
@@ -181,4 +182,42 @@ pub unsafe extern "C" fn independent_cache_lookup(
     table: *const Entry, table_length: usize,
     texts: *const u8, texts_length: usize) -> LookupAnswer {
     cache::lookup(clock, lent(domain, domain_length), lent(table, table_length), lent(texts, texts_length))
+}
+
+/// # Safety
+/// The slices are valid, and the output is apart from the other.
+#[no_mangle]
+#[rustfmt::skip]
+pub unsafe extern "C" fn independent_write_txt(
+    id: *const u8, id_length: usize,
+    output: *mut u8, output_length: usize) -> Write {
+    let (number, length) = publish::write_txt(lent(id, id_length), lent_to_write(output, output_length));
+    Write { number, length }
+}
+
+/// # Safety
+/// The slices are valid, and the output is apart from the others.
+#[no_mangle]
+#[rustfmt::skip]
+pub unsafe extern "C" fn independent_write_policy(
+    mode: u64,
+    lifetime: u64,
+    patterns: *const u8, patterns_length: usize,
+    pattern_lengths: *const u8, pattern_lengths_length: usize,
+    output: *mut u8, output_length: usize) -> Write {
+    let (number, length) = publish::write_policy(
+        mode, lifetime, lent(patterns, patterns_length), lent(pattern_lengths, pattern_lengths_length),
+        lent_to_write(output, output_length));
+    Write { number, length }
+}
+
+/// # Safety
+/// The slices are valid, and the output is apart from the other.
+#[no_mangle]
+#[rustfmt::skip]
+pub unsafe extern "C" fn independent_rewrite_policy(
+    body: *const u8, body_length: usize,
+    output: *mut u8, output_length: usize) -> Write {
+    let (number, length) = publish::rewrite_policy(lent(body, body_length), lent_to_write(output, output_length));
+    Write { number, length }
 }

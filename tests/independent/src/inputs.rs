@@ -145,7 +145,7 @@ fn same(r: &mut Random, s: &[u8]) -> Vec<u8> {
     if r.once_in(3) { other_case(r, s) } else { s.to_vec() }
 }
 
-fn starred(s: &[u8]) -> Vec<u8> {
+pub fn starred(s: &[u8]) -> Vec<u8> {
     [b"*.", s].concat()
 }
 
@@ -440,7 +440,7 @@ fn extension_value(r: &mut Random) -> Vec<u8> {
     v
 }
 
-fn max_age(r: &mut Random) -> Vec<u8> {
+pub fn max_age(r: &mut Random) -> Vec<u8> {
     match r.below(30) {
         0 => b"0".to_vec(),
         1 => b"31557600".to_vec(),
@@ -459,7 +459,7 @@ fn max_age(r: &mut Random) -> Vec<u8> {
 }
 
 /// The name and value of each line, then the whole.
-fn policy_body(r: &mut Random, patterns: &[Vec<u8>], mode: &[u8], age: &[u8], clean: bool) -> Vec<u8> {
+pub fn policy_body(r: &mut Random, patterns: &[Vec<u8>], mode: &[u8], age: &[u8], clean: bool) -> Vec<u8> {
     let mut lines: Vec<(Vec<u8>, Vec<u8>)> = vec![
         (b"version".to_vec(), b"STSv1".to_vec()),
         (b"mode".to_vec(), mode.to_vec()),
@@ -595,7 +595,7 @@ fn line_end(r: &mut Random) -> &'static [u8] {
 }
 
 /// A further line before some line, or after the last, where it may have no end.
-fn put_line(r: &mut Random, body: &mut Vec<u8>, line: &[u8]) {
+pub fn put_line(r: &mut Random, body: &mut Vec<u8>, line: &[u8]) {
     if !r.once_in(3) {
         let at = some_line(r, body);
         body.splice(at..at, [line, line_end(r)].concat());
@@ -1091,12 +1091,12 @@ pub fn host(r: &mut Random) -> HostCall {
     c
 }
 
-fn bad_code(r: &mut Random) -> u64 {
+pub fn bad_code(r: &mut Random) -> u64 {
     *r.pick(&[0, 1, 2, 3, 4, 5, 7, 8, 9, 255, 256, 257, 258, 1 << 32, (1 << 32) + 1, (1 << 32) + 2, (1 << 63) + 1, u64::MAX])
 }
 
 /// A change to a list of numbers.
-fn mutate_list(r: &mut Random, l: &mut Vec<u8>) {
+pub fn mutate_list(r: &mut Random, l: &mut Vec<u8>) {
     match r.below(8) {
         0 => l.push(0),
         1 => l.extend([0, 0, 0]),

@@ -1,16 +1,18 @@
 //! Every length from 0 to 72 of what the library may look at several bytes at a time: the value of a policy's line and of a TXT
-//! field, names, certificates and key infos compared whole, and the domains of a cache. Each is asked as it is right and with
-//! another byte, or a few, at each place. Then the lines of a policy that offend, at each place among others and after lines of
-//! each length. An input is lent on every side (`Place::each`), and the answer must be the same on all of them; only a cache,
-//! which is long, is lent on one side.
+//! field, names, certificates and key infos compared whole, the domains of a cache, and ids and patterns that are written. Each is
+//! asked as it is right and with another byte, or a few, at each place. Then the lines of a policy that offend, at each place among
+//! others and after lines of each length, and outputs of each length. An input is lent on every side (`Place::each`), and the
+//! answer must be the same on all of them; only a cache, which is long, is lent on one side.
 
-use crate::boundary::{self, Lender, Place, StoreCall};
+use crate::arguments::Shown;
+use crate::boundary::{self, Lender, Place, PolicyCall, StoreCall};
 use crate::caches::{Cache, Call};
 use crate::examples::{one_record, plain};
 use crate::inputs::{lengths_of, list, EDGES, LETTERS, UTF8_EDGES};
 use crate::random::Random;
 use crate::{arguments, histories, Table};
 use independent_rules::cache::ENTRIES;
+use independent_rules::publish::{self, WriteAnswer};
 use independent_rules::rules::{self, HostCall, TlsaAnswer};
 use std::fmt::Debug;
 use std::panic::AssertUnwindSafe;
@@ -101,6 +103,50 @@ impl Check<'_> {
             |lender, place| lender.judge_host(call, place),
             |answer| answer.0,
         );
+    }
+
+    /// A call that writes, with an output of this size, filled with one byte, which changes with the cases.
+    fn write(
+        &mut self,
+        room: usize,
+        inputs: impl Fn() -> String,
+        ours: impl Fn(&mut [u8]) -> WriteAnswer,
+        theirs: impl Fn(&mut Lender, &mut [u8], Place) -> WriteAnswer,
+    ) {
+        let output = vec![b"a:\n 9\0\x80"[self.inputs as usize % 7]; room];
+        let with_output = |write: &mut dyn FnMut(&mut [u8]) -> WriteAnswer| {
+            let mut output = output.clone();
+            (write(&mut output), Shown(output))
+        };
+        self.ask(
+            || [inputs(), arguments::shown("output", &output)].concat(),
+            || with_output(&mut |output| ours(output)),
+            |lender, place| with_output(&mut |output| theirs(lender, output, place)),
+            |(answer, _)| answer.0,
+        );
+    }
+
+    fn write_txt(&mut self, id: &[u8], room: usize) {
+        let theirs = |lender: &mut Lender, output: &mut [u8], place| lender.write_txt(id, output, place);
+        self.write(room, || arguments::shown("id", id), |output| publish::write_txt(id, output), theirs);
+    }
+
+    fn write_policy(&mut self, c: &PolicyCall, room: usize) {
+        let ours = |output: &mut [u8]| publish::write_policy(c.mode, c.lifetime, &c.patterns, &c.pattern_lengths, output);
+        let theirs = |lender: &mut Lender, output: &mut [u8], place| lender.write_policy(c, output, place);
+        self.write(room, || arguments::policy_call(c), ours, theirs);
+    }
+
+    fn rewrite_policy(&mut self, body: &[u8], room: usize) {
+        let theirs = |lender: &mut Lender, output: &mut [u8], place| lender.rewrite_policy(body, output, place);
+        self.write(room, || arguments::shown("body", body), |output| publish::rewrite_policy(body, output), theirs);
+    }
+
+    /// Read and rewritten; for a few there is too little room.
+    fn policy_and_rewriting(&mut self, body: &[u8]) {
+        self.policy(body);
+        let room = if self.inputs % 5 == 0 { 40 } else { 110 };
+        self.rewrite_policy(body, room);
     }
 
     /// A call on one of the caches, in which some entry has a live policy, and these bytes at the front of its domain's field. The
@@ -236,13 +282,13 @@ fn policy_known_values(c: &mut Check) {
     };
     for field in ["version", "mode", "max_age", "mx"].map(str::as_bytes) {
         for value in ["STSv1", "enforce", "testing", "none", "1", "31557601", "0123456789", "01234567890", "a.example"] {
-            near(value.as_bytes(), &[0x01, 0x10, 0x20, 0x40, 0x80], |value| c.policy(&lines(field, value)));
+            near(value.as_bytes(), &[0x01, 0x10, 0x20, 0x40, 0x80], |value| c.policy_and_rewriting(&lines(field, value)));
             for n in 0..=LONGEST {
                 for blank in [b" ", b"\t"] {
                     let blanks = blank.repeat(n);
-                    c.policy(&lines(field, &[&blanks, value.as_bytes(), b"\r\n"].concat()));
-                    c.policy(&lines(field, &[value.as_bytes(), &blanks].concat()));
-                    c.policy(&lines(field, &[value.as_bytes(), &blanks, b"x"].concat()));
+                    c.policy_and_rewriting(&lines(field, &[&blanks, value.as_bytes(), b"\r\n"].concat()));
+                    c.policy_and_rewriting(&lines(field, &[value.as_bytes(), &blanks].concat()));
+                    c.policy_and_rewriting(&lines(field, &[value.as_bytes(), &blanks, b"x"].concat()));
                 }
             }
         }
@@ -291,11 +337,11 @@ fn policy_faults(c: &mut Check) {
         let before = [&GOOD[..at], &[line], &GOOD[at..]].concat();
         let instead = [&GOOD[..at], &[line], &GOOD[(at + 1).min(GOOD.len())..]].concat();
         for (ends, last) in ends.iter().flat_map(|ends| [&b""[..], b"\n", b"\r\n", b"\r"].map(|last| (ends, last))) {
-            c.policy(&joined(&before, ends, last));
-            c.policy(&joined(&instead, ends, last));
+            c.policy_and_rewriting(&joined(&before, ends, last));
+            c.policy_and_rewriting(&joined(&instead, ends, last));
         }
         for (later, other) in (at + 1..=before.len()).flat_map(|later| OFFENDING.map(|other| (later, other))) {
-            c.policy(&joined(&[&before[..later], &[other], &before[later..]].concat(), ends[2], b"\n"));
+            c.policy_and_rewriting(&joined(&[&before[..later], &[other], &before[later..]].concat(), ends[2], b"\n"));
         }
     }
 }
@@ -370,7 +416,7 @@ fn txt_tags(c: &mut Check) {
 
 // --------------------------------------------------------------------------------------------------------------------- names
 
-/// As next-hop, expanded next-hop, host, expanded name and pattern.
+/// As next-hop, expanded next-hop, host, expanded name, and pattern that is read or written.
 fn each_use(c: &mut Check, name: &[u8]) {
     let alias = HostCall { address: 3, tlsa_answers: 0, expanded: b"mx.example.net".to_vec(), ..plain() };
     c.host(&HostCall { next_hop: name.to_vec(), ..alias.clone() });
@@ -378,7 +424,9 @@ fn each_use(c: &mut Check, name: &[u8]) {
     c.host(&HostCall { host: name.to_vec(), ..alias.clone() });
     c.host(&HostCall { expanded: name.to_vec(), ..alias });
     let star = [&b""[..], b"*."][name.len() % 2];
-    c.policy(&[b"version:STSv1\nmode:testing\nmax_age:1\nmx:", star, name].concat());
+    let pattern = [star, name].concat();
+    c.policy(&[b"version:STSv1\nmode:testing\nmax_age:1\nmx:", &pattern[..]].concat());
+    c.write_policy(&policy_call(2, 1, &[pattern]), name.len() + 50);
 }
 
 fn names(c: &mut Check) {
@@ -554,6 +602,94 @@ fn store(domain: &[u8]) -> Call {
     Call::Store(StoreCall { clock: plain().clock, domain: domain.to_vec(), id: b"new".to_vec(), policy })
 }
 
+// ---------------------------------------------------------------------------------------------------------- what is written
+
+fn policy_call(mode: u64, lifetime: u64, patterns: &[Vec<u8>]) -> PolicyCall {
+    PolicyCall { mode, lifetime, patterns: patterns.concat(), pattern_lengths: list(&lengths_of(patterns)) }
+}
+
+/// Ids with every byte of the edges at each place, and with every byte at all in the first, the last and a place between; then each
+/// length with outputs of each length.
+fn ids_written(c: &mut Check) {
+    const FRAME: usize = b"v=STSv1; id=;".len();
+    let (edges, every): (_, Vec<u8>) = (single(EDGES), (0..=255).collect());
+    for n in 0..=LONGEST {
+        with_each(&letters(n), if n <= 40 { &edges } else { &[] }, |id| c.write_txt(id, FRAME + n + n % 3));
+    }
+    for (n, at) in [(1, 0), (9, 0), (9, 4), (9, 8), (32, 0), (32, 15), (32, 31)] {
+        every.iter().for_each(|&byte| c.write_txt(&replaced(&letters(n), at, &[byte]), FRAME + 32));
+    }
+    for n in 0..=34 {
+        (0..=FRAME + n + 17).for_each(|room| c.write_txt(&letters(n), room));
+    }
+}
+
+/// Patterns of each length, before and after one another, and 16 of each; written, and rewritten from a body with other fields.
+fn patterns_written(c: &mut Check) {
+    for n in (1..=LONGEST).chain(250..=254) {
+        for (first, count) in [(n, 1), (n, 2), (n + 1, 3), (n, 16), (n, 17)] {
+            let mut patterns: Vec<Vec<u8>> = (0..count).map(|i| name(n, [63, n % 9 + 1][i % 2])).collect();
+            patterns[0] = [b"*.", &name(first, 63)[..]].concat();
+            let lines: Vec<Vec<u8>> = patterns.iter().map(|pattern| [b"mx:", &pattern[..], b" \r\nx: mx: y\n"].concat()).collect();
+            let body = [&b"max_age: 0086400\n"[..], &lines.concat(), b"mode:enforce\nversion:STSv1"].concat();
+            let needed = 44 + patterns.concat().len() + 5 * count;
+            for room in [needed - 1, needed, needed + 9] {
+                c.write_policy(&policy_call(1, 86_400, &patterns), room);
+                c.rewrite_policy(&body, room);
+            }
+        }
+    }
+}
+
+/// Every count of patterns with every mode, and what may be wrong with the list of their lengths; also beside a lifetime or an
+/// output that would be refused later.
+fn patterns_counted(c: &mut Check) {
+    const MODES: [u64; 7] = [0, 1, 2, 3, 4, 257, (1 << 32) + 1];
+    for (count, mode) in (0..=18).flat_map(|count| MODES.map(|mode| (count, mode))) {
+        let patterns: Vec<Vec<u8>> = (0..count).map(|i| name(i % 5 + 1, 63)).collect();
+        for (lifetime, room) in [(604_800, 30), (604_800, 300), (31_557_601, 300), (31_557_601, 0)] {
+            let good = policy_call(mode, lifetime, &patterns);
+            c.write_policy(&good, room);
+            near(&good.pattern_lengths, &[0x01, 0x80], |lengths| {
+                c.write_policy(&PolicyCall { pattern_lengths: lengths.to_vec(), ..good.clone() }, room);
+            });
+            near(&good.patterns, &[], |patterns| c.write_policy(&PolicyCall { patterns: patterns.to_vec(), ..good.clone() }, room));
+        }
+    }
+}
+
+/// Lifetimes of each number of digits, with each bit changed, and about the largest; written, and rewritten with zeros in front.
+fn lifetimes_written(c: &mut Check) {
+    let tens = (0..20).map(|digits| 10u64.pow(digits));
+    let near_tens = tens.flat_map(|ten| [ten - 1, ten, ten + 1, ten + ten / 7, ten / 9]);
+    let bits = (0..64).flat_map(|bit| [31_557_600 ^ 1 << bit, 1 << bit]);
+    let all: Vec<u64> = (0..=1111).chain(near_tens).chain(31_557_580..=31_557_620).chain(bits).chain([u64::MAX]).collect();
+    for lifetime in all {
+        c.write_policy(&policy_call(3, lifetime, &[]), 44);
+        c.write_policy(&policy_call(1, lifetime, &[b"a".to_vec()]), 60);
+        for zeros in 0..=10 {
+            let age = format!("{}{lifetime}", "0".repeat(zeros));
+            if age.len() <= 11 {
+                c.rewrite_policy(format!("version:STSv1\nmode:none\nmax_age:{age}").as_bytes(), 44);
+            }
+        }
+    }
+}
+
+/// Outputs of each length, for policies of every mode.
+fn outputs(c: &mut Check) {
+    for (mode, word) in [(1, "enforce"), (2, "testing"), (3, "none")] {
+        for patterns in [vec![name(1, 63)], vec![name(70, 7), name(9, 3), name(33, 63)]] {
+            let mut body = format!("mode: {word}\r\nversion: STSv1\r\nnote: none\r\nmax_age: 31557601\r\n").into_bytes();
+            patterns.iter().for_each(|pattern| body.extend([b"mx: ", &pattern[..], b"\r\n"].concat()));
+            for room in 0..=200 {
+                c.write_policy(&policy_call(mode, 31_557_600, &patterns), room);
+                c.rewrite_policy(&body, room);
+            }
+        }
+    }
+}
+
 /// All parts, or the one input alone, printed; the number of the library's answers that were compared.
 pub fn run(lender: &mut Lender, only: Option<u64>) -> u64 {
     let begun = Instant::now();
@@ -563,19 +699,24 @@ pub fn run(lender: &mut Lender, only: Option<u64>) -> u64 {
     }
     let all = std::panic::catch_unwind(AssertUnwindSafe(|| {
         c.part("policy values", &[7, 53, 57], policy_values);
-        c.part("policy values that are known", &[7, 52, 53, 54, 55, 56, 57], policy_known_values);
+        c.part("policy values that are known", &[7, 15, 52, 53, 54, 55, 56, 57, 83], policy_known_values);
         c.part("policy names", &[7, 52, 53], policy_names);
-        c.part("policy faults", &[7, 53, 54, 55, 56, 57], policy_faults);
+        c.part("policy faults", &[7, 15, 53, 54, 55, 56, 57, 83], policy_faults);
         c.part("policy faults further on", &[52, 53, 54, 55, 56, 57], policy_offsets);
         c.part("TXT values", &[6, 42], txt_values);
         c.part("TXT names", &[6, 42], txt_names);
         c.part("TXT tags", &[6, 40, 42], txt_tags);
-        c.part("names", &[7, 13, 53, 57, 60, 61], names);
+        c.part("names", &[7, 13, 15, 53, 57, 60, 61, 81], names);
         c.part("names compared", &[3, 4, 23, 26, 27, 53, 57, 61], compared_names);
         c.part("certificates compared", &[3, 26], compared_certificates);
         c.part("digests compared", &[3, 26], compared_digests);
         c.part("domains looked up", &[15, 60, 72], |c| compared_domains(c, look_up));
         c.part("domains stored", &[15, 60, 70], |c| compared_domains(c, store));
+        c.part("ids written", &[15, 80, 83], ids_written);
+        c.part("patterns written", &[15, 57, 81, 83], patterns_written);
+        c.part("patterns counted", &[15, 67, 81, 82, 83], patterns_counted);
+        c.part("lifetimes written", &[15, 56, 82], lifetimes_written);
+        c.part("outputs", &[15, 83], outputs);
     }));
     if all.is_err() {
         println!("FAILED: lengths case {}", c.inputs);

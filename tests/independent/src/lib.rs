@@ -3,4 +3,5 @@
 
 pub mod cache;
 pub mod exports;
+pub mod publish;
 pub mod rules;

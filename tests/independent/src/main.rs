@@ -1,8 +1,9 @@
 //! Differential tests: the library's C boundary against an independent writing of the rules of documents 01 and 02.
 //!
 //! independent [CASES [SEED]]: CASES inputs for each call (2,500,000 unless given; environment INDEPENDENT_CASES), fewer for the
-//! cache, from SEED (environment INDEPENDENT_SEED). INDEPENDENT_ONLY=CALL:CASE runs a single case (CALL: txt, policy, host, message,
-//! lengths, cache, histories) and prints it, with what both answer.
+//! cache and for policies that are written, from SEED (environment INDEPENDENT_SEED). INDEPENDENT_ONLY=CALL:CASE runs a single case
+//! (CALL: txt, policy, host, message, write_txt, write_policy, rewrite_policy, lengths, cache, histories) and prints it, with what
+//! both answer.
 
 mod arguments;
 mod boundary;
@@ -15,26 +16,38 @@ mod histories;
 mod inputs;
 mod lengths;
 mod next_hops;
+mod publications;
+mod publishing;
 mod random;
+mod round_trips;
 
 use boundary::{Lender, Place};
 use faults::Faults;
 use independent_rules::rules;
 use next_hops::NextHops;
+use publishing::Ways;
 use random::Random;
 use std::collections::BTreeMap;
 use std::fmt::Debug;
 use std::panic::AssertUnwindSafe;
 use std::time::Instant;
 
-const CALLS: [&str; 4] = ["txt", "policy", "host", "message"];
-const ANSWERS: [&[u64]; 4] = [
+const CALLS: [&str; 7] = ["txt", "policy", "host", "message", "write_txt", "write_policy", "rewrite_policy"];
+const ANSWERS: [&[u64]; 7] = [
     &[6, 40, 41, 42, 43, 44],
     &[7, 50, 52, 53, 54, 55, 56, 57],
     &[1, 2, 3, 4, 5, 10, 11, 12, 13, 14, 20, 21, 22, 23, 24, 25, 26, 27, 50, 52, 53, 54, 55, 56, 57, 60, 61, 62, 64, 65, 66, 67],
     &[1, 2, 3, 4, 5, 8, 30, 31, 63, 67],
+    &[15, 80, 83],
+    &[15, 67, 81, 82, 83],
+    &[15, 50, 52, 53, 54, 55, 56, 57, 81, 83],
 ];
-/// Of so many cases each answer of a call has to come, each fault of a policy in every place, and each way of the expanded next-hop.
+/// The random stream of each call. Those between are of the tests that are no single call.
+const STREAMS: [u64; 7] = [0, 1, 2, 3, 8, 9, 10];
+/// Of the cases that are asked for, a call gets one in so many.
+const ONE_IN: [u64; 7] = [1, 1, 1, 1, 1, 4, 4];
+/// Of so many cases each answer of a call has to come, each fault of a policy in every place, and each way of the expanded next-hop
+/// and of the calls that write.
 const MANY: u64 = 100_000;
 const THREADS: u64 = 2;
 
@@ -51,7 +64,7 @@ fn outcome<T: Debug + PartialEq + 'static>(number: u64, ours: T, theirs: T, argu
 }
 
 fn run_case(lender: &mut Lender, seed: u64, call: usize, case: u64, seen: &mut Seen) -> Outcome {
-    let mut r = Random::new(seed, call as u64, case);
+    let mut r = Random::new(seed, STREAMS[call], case);
     let place = Place::random(&mut r);
     match call {
         0 => {
@@ -76,23 +89,28 @@ fn run_case(lender: &mut Lender, seed: u64, call: usize, case: u64, seen: &mut S
             seen.next_hops.count(&c, ours.0);
             outcome(theirs.0, ours, theirs, move || arguments::host(&c))
         }
-        _ => {
+        3 => {
             let (lookup, preferences, verdicts) = inputs::message(&mut r);
             let ours = rules::next_host(lookup, &preferences, &verdicts);
             let theirs = lender.next_host(lookup, &preferences, &verdicts, place);
             outcome(theirs.0, ours, theirs, move || arguments::message(lookup, &preferences, &verdicts))
         }
+        4 => publishing::write_txt(lender, &mut r, place, &mut seen.ways),
+        5 => publishing::write_policy(lender, &mut r, place, &mut seen.ways),
+        _ => publishing::rewrite_policy(lender, &mut r, place, &mut seen.ways),
     }
 }
 
 type Table = BTreeMap<u64, u64>;
 
-/// How often each answer number of a call came, where the lines that offend stood, and what hung on the expanded next-hop.
+/// How often each answer number of a call came, where the lines that offend stood, what hung on the expanded next-hop, and the ways
+/// of a call that writes.
 #[derive(Default)]
 struct Seen {
     numbers: Table,
     faults: Faults,
     next_hops: NextHops,
+    ways: Ways,
 }
 
 impl Seen {
@@ -110,6 +128,8 @@ impl Seen {
             self.next_hops.report();
             missing = missing.or(self.next_hops.missing(cases));
         }
+        self.ways.report();
+        missing = missing.or(self.ways.missing(cases));
         if let Some(missing) = missing.filter(|_| cases >= MANY) {
             println!("FAILED: too few cases gave {missing}");
             std::process::exit(1);
@@ -166,7 +186,8 @@ fn main() {
             histories::run_only(&mut lender, seed, call, case);
             return;
         }
-        let call = CALLS.iter().position(|c| *c == call).expect("a call: txt, policy, host, message, lengths, cache or histories");
+        let known = || panic!("a call: {}, lengths, cache or histories", CALLS.join(", "));
+        let call = CALLS.iter().position(|c| *c == call).unwrap_or_else(known);
         report(seed, call, case, &run_case(&mut lender, seed, call, case, &mut Seen::default()));
         return;
     }
@@ -174,7 +195,7 @@ fn main() {
     println!("{passed} fixed examples passed");
     passed += lengths::run(&mut lender, None);
     for (call, title) in CALLS.iter().enumerate() {
-        let (begun, mut seen) = (Instant::now(), Seen::default());
+        let (begun, mut seen, cases) = (Instant::now(), Seen::default(), cases / ONE_IN[call]);
         run(&mut lender, seed, call, 0..cases, &mut seen);
         passed += cases;
         println!("{title}: {cases} cases in {:.1} s", begun.elapsed().as_secs_f64());
@@ -183,6 +204,7 @@ fn main() {
     // A cache's case takes a hundred times as long as another. So few that an answer never comes would test nothing.
     passed += histories::run(&mut lender, seed, (cases / 25).max(5_000), (cases / 1_000).max(400));
     passed += claims::run(&mut lender, seed, (cases / 5_000).max(300));
+    passed += round_trips::run(&mut lender, seed, (cases / 25).max(5_000));
     let begun = Instant::now();
     let mut table = Table::new();
     let some = cases / 4;

@@ -30,7 +30,7 @@ fn numbers(list: &[u8]) -> (Vec<u64>, bool) {
 }
 
 /// "lengths that sum": the parts of the bytes, or None if there are left-over bytes in the list or the lengths don't sum.
-fn parts<'a>(bytes: &'a [u8], lengths: &[u8]) -> Option<Vec<&'a [u8]>> {
+pub(crate) fn parts<'a>(bytes: &'a [u8], lengths: &[u8]) -> Option<Vec<&'a [u8]>> {
     let (lengths, left_over) = numbers(lengths);
     let sum: u128 = lengths.iter().map(|&n| n as u128).sum();
     if left_over || sum != bytes.len() as u128 {
@@ -188,7 +188,7 @@ pub fn is_name(s: &[u8]) -> bool {
 }
 
 /// "every `mx` is a name or `*.` and a name"; reading 8: the limit of 253 is N's.
-fn is_pattern(s: &[u8]) -> bool {
+pub(crate) fn is_pattern(s: &[u8]) -> bool {
     is_name(s) || s.strip_prefix(b"*.").map_or(false, is_name)
 }
 
@@ -209,10 +209,10 @@ fn matches(presented: &[u8], name: &[u8]) -> bool {
 
 // ----------------------------------------------------------------------------------------------------------------- policy
 
-struct Policy<'a> {
-    mode: u64,
-    lifetime: u64,
-    patterns: Vec<&'a [u8]>,
+pub(crate) struct Policy<'a> {
+    pub mode: u64,
+    pub lifetime: u64,
+    pub patterns: Vec<&'a [u8]>,
 }
 
 pub fn read_policy(body: &[u8]) -> PolicyAnswer {
@@ -226,7 +226,7 @@ pub fn read_policy(body: &[u8]) -> PolicyAnswer {
 
 /// "Order: 50, 51, 52." Document 02: "53 to 57 stand wherever 51 stood; the set of accepted policies stays the same, and 52 still
 /// comes after them."
-fn policy(body: &[u8]) -> Result<Policy<'_>, PolicyAnswer> {
+pub(crate) fn policy(body: &[u8]) -> Result<Policy<'_>, PolicyAnswer> {
     let refusal = |number| PolicyAnswer { number, ..Default::default() };
     if body.len() > 65_536 {
         return Err(refusal(50));

@@ -1,0 +1,10 @@
+pub mod Digits
+pub mod Values
+pub mod PolicyBack
+pub mod TxtBack
+pub mod Ways
+pub mod Bodies
+pub mod Rewriting
+pub mod Exactly
+pub mod Published
+pub mod Worked
