@@ -34,7 +34,7 @@ use Rattle.publish.specs.Steps.{headText, ageLine, bodyLength}
 use Rattle.publish.proofs.Digits.{age-most}
 use Rattle.publish.proofs.PolicyBack.{line-length, mx-most, count-few, policy-most}
 
--- `head_length`, and the ends of `write_head`
+-- `head_length`, and the words of `write_head`
 head-size : (m : Mode) → length (headText m) ≡ 22 + length (modeText m)
 unfolding headText fieldLine modeText
 head-size M.Enforce = refl
@@ -79,7 +79,7 @@ head-written m w out x y e h p q =
     let fits : 0 + length (headText m) ≤ length out = omega arith in
     q ∙ (rw e (sym (step-is 0 21 (text "version: STSv1\nmode: ") (modeText m ++ (LF ∷ [])) out x p refl fits)))
 
-pub ruleset write-head-laws = (enforce-length, enforce-word, testing-length, testing-word, none-length, none-word, head-written, needs)
+pub ruleset write-head-laws = (enforce-word, testing-word, none-word, head-written, needs)
 
 -- `age_length`
 pub age-upto : (n r : ℕ) → r ≡ length (decimal n) → n ≤ longest → r ≤ 8

@@ -8,7 +8,10 @@ use native.Mathlib.Omega.{arith}
 use lib.Dec.{eqb, leb}
 use lib.ListN.{length}
 use borrow.Author.Tests.{ne-eqb, eqb-true}
-use Rattle.lists.specs.Bytes.{within}
+use Rattle.lists.specs.Bytes.{within, all}
+use Rattle.numbers.specs.Numbers.{numbers}
+use Rattle.numbers.specs.Pieces.{cut, sumsTo}
+use Rattle.names.specs.Name.{isPattern}
 use Rattle.lists.specs.Check.{refusalOf}
 use Rattle.lists.proofs.Bools.{apart}
 use Rattle.policies.specs.declared.Mode.{Mode}
@@ -77,6 +80,11 @@ count-exactly M.Enforce n = some-and-few (leb 1 n) (leb n 16)
 count-exactly M.Testing n = some-and-few (leb 1 n) (leb n 16)
 count-exactly M.None n = few-alone (leb 1 n) (leb n 16)
 
+-- patterns fit where the list of their lengths has no left-over bytes and sums to their bytes, their count is right, and each is a pattern
+pub fit-exactly : (m : Mode) (s l : List ℕ) → patternsFit m s l ≡ (sumsTo l (length s) && (leb (length (numbers l)) 16 && (leb 1 (length (numbers l)) || eqb (modeNumber m) 3)) && all isPattern (cut s (numbers l)))
+unfolding patternsFit
+fit-exactly m s l = rw (count-exactly m (length (numbers l)))
+
 module _ (mode lifetime : ℕ) (patterns lengths : List ℕ) (room : ℕ) where
   abbrev policyNumber : ℕ
   policyNumber = writePolicyAnswer mode lifetime patterns lengths room .number
@@ -130,7 +138,7 @@ module _ (mode lifetime : ℕ) (patterns lengths : List ℕ) (room : ℕ) where
   pub policy-15 : eqb policyNumber 15 ≡ (named && fit && short && policyFits)
   policy-15 = policy-each .4
 
--- ---- a body anew
+-- ---- rewriting a body
 module _ (body : List ℕ) (room : ℕ) where
   abbrev rewriteNumber : ℕ
   rewriteNumber = rewriteAnswer body room .number

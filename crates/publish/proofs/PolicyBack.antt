@@ -2,7 +2,7 @@
 use Prim.Native.Nat.{ℕ, _+_, _*_, _<_, _≤_}
 use mathlib.Core.Path.{_≡_, refl, sym, subst, _∙_}
 use mathlib.Core.Bool.{true}
-use mathlib.Core.List.{List, [], _∷_, _++_, map, append-nil, append-assoc}
+use mathlib.Core.List.{List, [], _∷_, _++_, map, flatten, append-nil, append-assoc}
 use native.Mathlib.Omega.{arith}
 use lib.ListN.{length, getD, length-append}
 use borrow.Author.Tests.{leb-true, le-leb, lt-ltb, ltb-true}
@@ -61,7 +61,7 @@ abbrev pub fieldsOf : Mode → ℕ → List (List ℕ) → List Pair
 fieldsOf mode lifetime ps = field (text "version") (text "STSv1") ∷ field (text "mode") (modeText mode) ∷ (mxFields ps ++ (field (text "max_age") (decimal lifetime) ∷ []))
 
 mx-body : (ps : List (List ℕ)) (s : List ℕ) (fs : List Pair) → all isPattern ps ≡ true → Body s fs → Body (mxLines ps ++ s) (mxFields ps ++ fs)
-unfolding mxLines map all
+unfolding mxLines all
 mx-body [] s fs h b = b
 mx-body (p ∷ ps) s fs h b =
     let k = and-both (isPattern p) (all isPattern ps) h in
@@ -69,14 +69,27 @@ mx-body (p ∷ ps) s fs h b =
 
 -- they are the values of name `mx`, and have no other name
 mx-values : (ps : List (List ℕ)) (fs : List Pair) → values (text "mx") (mxFields ps ++ fs) ≡ ps ++ values (text "mx") fs
-unfolding values map agree sameByte
+unfolding values agree sameByte
 mx-values [] fs = refl
 mx-values (p ∷ ps) fs = rw (mx-values ps fs)
 
 mx-first : (ps : List (List ℕ)) (fs : List Pair) → firstValue (text "max_age") (mxFields ps ++ fs) ≡ firstValue (text "max_age") fs
-unfolding firstValue map agree sameByte
+unfolding firstValue agree sameByte
 mx-first [] fs = refl
 mx-first (p ∷ ps) fs = mx-first ps fs
+
+-- the text once more, line by line: one space after the colon, LF after every line
+abbrev ended : List ℕ → List ℕ
+ended l = l ++ text "\n"
+
+mx-spelled : (ps : List (List ℕ)) → mxLines ps ≡ flatten (map (λ (p : List ℕ). ended (text "mx: " ++ p)) ps)
+unfolding mxLines fieldLine flatten
+mx-spelled [] = refl
+mx-spelled (p ∷ ps) = rw (mx-spelled ps)
+
+pub policy-spelled : (m : Mode) (n : ℕ) (ps : List (List ℕ)) → policyText m n ps ≡ ended (text "version: STSv1") ++ (ended (text "mode: " ++ modeText m) ++ (flatten (map (λ (p : List ℕ). ended (text "mx: " ++ p)) ps) ++ ended (text "max_age: " ++ decimal n)))
+unfolding policyText fieldLine
+policy-spelled m n ps = rw (mx-spelled ps)
 
 -- how long a line is, and how long the lines are together
 pub line-length : (n v : List ℕ) → length (fieldLine n v) ≡ length n + length v + 3

@@ -24,7 +24,7 @@ use Rattle.policies.specs.Policy.{Policy, Reading, policy, modeNumber, answerTo
 use Rattle.policies.proofs.Sanity.{Accepts, accepted-answer}
 use Rattle.txt.specs.Paper.{isId}
 use Rattle.txt.specs.Txt.{readTxt, wroteTxt, idPart}
-use Rattle.writing.proofs.Written.{Wrote, wrote}
+use Rattle.writing.proofs.Written.{Wrote, wrote, not-written}
 use Rattle.publish.specs.Texts.{txtText, policyText}
 use Rattle.publish.specs.Calls.{txtChecks, writeTxtAnswer, writeTxtOutput, modeFrom, countFits, patternsFit, policyChecks, policyOf, writePolicyAnswer, writePolicyOutput, rewriteChecks, textOf, rewritten, rewriteAnswer, rewriteOutput}
 use Rattle.publish.proofs.TxtBack.{asString, txt-length, txt-most, txt-back}
@@ -38,8 +38,8 @@ module _ (id out : List ℕ) (done : writeTxtAnswer id (length out) .number ≡ 
   txt-good = and-both (isId id) (leb (length id + 13) (length out)) (sym (txt-15 id (length out)) ∙ eq-eqb (writeTxtAnswer id (length out) .number) 15 done)
 
   -- the text stands at the front of the output, whose rest is as it was
-  pub txt-wrote : Wrote (txtChecks id) (txtText id) out
-  unfolding txtChecks refusalOf
+  pub txt-wrote : Wrote (txtText id) out (writeTxtAnswer id (length out)) (writeTxtOutput id out)
+  unfolding writeTxtAnswer writeTxtOutput txtChecks refusalOf
   txt-wrote = wrote (txtChecks id) (txtText id) out (rw (txt-good .0)) (omega (arith, leb-true (length id + 13) (length out) (txt-good .1), txt-length id))
 
   -- what was written
@@ -47,12 +47,16 @@ module _ (id out : List ℕ) (done : writeTxtAnswer id (length out) .number ≡ 
   txtWritten = take (writeTxtAnswer id (length out) .length) (writeTxtOutput id out)
 
   pub txt-is : txtWritten ≡ txtText id
-  unfolding writeTxtAnswer writeTxtOutput
   txt-is = rw (txt-wrote .size) (txt-wrote .front)
 
   -- as one character string it is accepted, with the same id, whatever output has room for it
   pub txt-read-back : (other : List ℕ) → length (txtText id) ≤ length other → (readTxt (asString txtWritten) (lengthsOf (asString txtWritten ∷ [])) (length other) .number ≡ 6) × (idPart (wroteTxt (asString txtWritten) (lengthsOf (asString txtWritten ∷ [])) other) (readTxt (asString txtWritten) (lengthsOf (asString txtWritten ∷ [])) (length other)) ≡ id)
   txt-read-back other room = rw txt-is (txt-back id (txt-good .0) other room)
+
+-- with any other number than 15 the output is as it was, and the length is zero
+pub txt-unwritten : (id out : List ℕ) → (writeTxtAnswer id (length out) .number ≡ 15 → ⊥) → (writeTxtOutput id out ≡ out) × (writeTxtAnswer id (length out) .length ≡ 0)
+unfolding writeTxtAnswer writeTxtOutput
+txt-unwritten id out = not-written (txtChecks id) (txtText id) out
 
 -- 45 bytes of output are always enough
 pub txt-enough : (id : List ℕ) (room : ℕ) → 45 ≤ room → eqb (writeTxtAnswer id room .number) 83 ≡ false
@@ -113,8 +117,8 @@ module _ (mode lifetime : ℕ) (patterns lengths out : List ℕ) (done : writePo
   passed = policy-good .0
 
   -- the body stands at the front of the output, whose rest is as it was
-  pub policy-wrote : Wrote (policyChecks mode lifetime patterns lengths) (policyOf mode lifetime patterns lengths) out
-  unfolding policyChecks refusalOf fits-too
+  pub policy-wrote : Wrote (policyOf mode lifetime patterns lengths) out (writePolicyAnswer mode lifetime patterns lengths (length out)) (writePolicyOutput mode lifetime patterns lengths out)
+  unfolding writePolicyAnswer writePolicyOutput policyChecks refusalOf fits-too
   policy-wrote =
       wrote (policyChecks mode lifetime patterns lengths) (policyOf mode lifetime patterns lengths) out
       (rw (passed .named, passed .fit, le-leb lifetime longest (passed .short)))
@@ -125,7 +129,6 @@ module _ (mode lifetime : ℕ) (patterns lengths out : List ℕ) (done : writePo
   policyWritten = take (writePolicyAnswer mode lifetime patterns lengths (length out) .length) (writePolicyOutput mode lifetime patterns lengths out)
 
   pub policy-is : policyWritten ≡ policyText (modeFrom mode) lifetime (cut patterns (numbers lengths))
-  unfolding writePolicyAnswer writePolicyOutput
   policy-is = rw (policy-wrote .size) (policy-wrote .front)
 
   -- it has these fields, in this order, and no other
@@ -141,6 +144,16 @@ module _ (mode lifetime : ℕ) (patterns lengths out : List ℕ) (done : writePo
   unfolding policyAnswer answerTo
   policy-accepted = rw (policy-read-back, mode-number mode (passed .named), cut-count patterns (numbers lengths))
 
+  -- and rewriting it writes the same
+  pub policy-stays : rewritten policyWritten ≡ policyWritten
+  unfolding textOf
+  policy-stays = ap textOf policy-read-back ∙ sym policy-is
+
+-- with any other number than 15 the output is as it was, and the length is zero
+pub policy-unwritten : (mode lifetime : ℕ) (patterns lengths out : List ℕ) → (writePolicyAnswer mode lifetime patterns lengths (length out) .number ≡ 15 → ⊥) → (writePolicyOutput mode lifetime patterns lengths out ≡ out) × (writePolicyAnswer mode lifetime patterns lengths (length out) .length ≡ 0)
+unfolding writePolicyAnswer writePolicyOutput
+policy-unwritten mode lifetime patterns lengths out = not-written (policyChecks mode lifetime patterns lengths) (policyOf mode lifetime patterns lengths) out
+
 -- 4,207 bytes of output are always enough
 pub policy-enough : (mode lifetime : ℕ) (patterns lengths : List ℕ) (room : ℕ) → 4207 ≤ room → eqb (writePolicyAnswer mode lifetime patterns lengths room .number) 83 ≡ false
 policy-enough mode lifetime patterns lengths room h = policy-83 mode lifetime patterns lengths room ∙ go (within 1 3 mode) refl (patternsFit (modeFrom mode) patterns lengths) refl (leb lifetime longest) refl
@@ -152,7 +165,7 @@ policy-enough mode lifetime patterns lengths room h = policy-83 mode lifetime pa
     go true e true f true g =
         rw (le-leb (length (policyOf mode lifetime patterns lengths)) room (omega (arith, given-most mode lifetime patterns lengths f (leb-true lifetime longest g))))
 
--- ---- a body anew
+-- ---- rewriting a body
 
 -- what passes the checks: the body is read as a policy of at most 16 patterns
 record Read (body : List ℕ) : Type 0 where
@@ -185,8 +198,8 @@ module _ (body out : List ℕ) (done : rewriteAnswer body (length out) .number �
       (b .0, b .1, c .1)
 
   -- the body stands at the front of the output, whose rest is as it was
-  pub rewrite-wrote : Wrote (rewriteChecks body) (rewritten body) out
-  unfolding rewriteChecks refusalOf
+  pub rewrite-wrote : Wrote (rewritten body) out (rewriteAnswer body (length out)) (rewriteOutput body out)
+  unfolding rewriteAnswer rewriteOutput rewriteChecks refusalOf
   rewrite-wrote =
       wrote (rewriteChecks body) (rewritten body) out
       (rw (rewrite-good .0, rewrite-good .1))
@@ -200,7 +213,6 @@ module _ (body out : List ℕ) (done : rewriteAnswer body (length out) .number �
   bodyWritten = take (rewriteAnswer body (length out) .length) (rewriteOutput body out)
 
   pub rewrite-is : bodyWritten ≡ rewritten body
-  unfolding rewriteAnswer rewriteOutput
   rewrite-is = rw (rewrite-wrote .size) (rewrite-wrote .front)
 
   -- it is read as the old body is: the same mode, lifetime and patterns in order
@@ -226,6 +238,11 @@ module _ (body out : List ℕ) (done : rewriteAnswer body (length out) .number �
   rewrite-has p e =
       let few : leb (length (p .patterns)) 16 ≡ true = sym (ap (λ (r : Reading). leb (answerTo r .«mx_count») 16) e) ∙ rewrite-good .1 in
       rw (rewrite-is, ap textOf e) (kept-fields body p e (leb-true (length (p .patterns)) 16 few))
+
+-- with any other number than 15 the output is as it was, and the length is zero
+pub rewrite-unwritten : (body out : List ℕ) → (rewriteAnswer body (length out) .number ≡ 15 → ⊥) → (rewriteOutput body out ≡ out) × (rewriteAnswer body (length out) .length ≡ 0)
+unfolding rewriteAnswer rewriteOutput
+rewrite-unwritten body out = not-written (rewriteChecks body) (rewritten body) out
 
 -- 4,207 bytes of output are always enough
 pub rewrite-enough : (body : List ℕ) (room : ℕ) → 4207 ≤ room → eqb (rewriteAnswer body room .number) 83 ≡ false

@@ -45,7 +45,12 @@ letter-value b h =
 abbrev pub asString : List ℕ → List ℕ
 asString t = length t ∷ t
 
--- the text is 13 bytes longer than the id
+-- the text once more, in its literals
+pub txt-spelled : (id : List ℕ) → txtText id ≡ text "v=STSv1; id=" ++ (id ++ text ";")
+unfolding txtText
+txt-spelled id = refl
+
+-- it is 13 bytes longer than the id
 pub txt-length : (id : List ℕ) → length (txtText id) ≡ length id + 13
 unfolding txtText
 txt-length id = omega (arith, length-append id (text ";"))

@@ -28,7 +28,7 @@ use Rattle.writing.specs.declared.WriteAnswer.{WriteAnswer}
 use Rattle.writing.specs.Answer.{success, refusal, answerUnless, unlessRefused, writeRefusal, writeAnswer, writeOutput}
 use Rattle.writing.specs.Decimal.{decimalIn, decimal}
 use Rattle.publish.specs.Texts.{txtText, fieldLine, mxLines, policyText}
-use Rattle.publish.specs.Calls.{txtChecks, writeTxtAnswer, writeTxtOutput, countFits, patternsFit, policyChecks, writePolicyAnswer, writePolicyOutput, rewriteChecks, textOf, rewriteOutput}
+use Rattle.publish.specs.Calls.{txtChecks, writeTxtAnswer, writeTxtOutput, countFits, patternsFit, policyChecks, writePolicyAnswer, writePolicyOutput, rewriteChecks, textOf, rewriteAnswer, rewriteOutput}
 
 -- an output of n bytes, each a dot
 dots : ℕ → List ℕ
@@ -73,16 +73,16 @@ modes : wrote 1 0 (text "A.b" ∷ text "A.b" ∷ []) ∷ wrote 2 31557600 (text 
 unfolding dots flatten written numbers isWhole sum cut sumsTo writePolicyAnswer writeAnswer answerUnless writePolicyOutput writeOutput unlessRefused writeRefusal refusalOf policyChecks patternsFit countFits policyText fieldLine mxLines modeText decimal decimalIn all split toFirst labelByte isLabel isName isStarred isWildcard isPattern
 modes = refl
 
--- refusals: an unknown mode before all else; no pattern under enforce and testing; 17 patterns under none; a final dot; an empty pattern; a left-over byte; lengths that sum to one more; a
+-- refusals: an unknown mode before all else; no pattern under enforce and testing; 17 patterns under none; a final dot; an empty pattern; a left-over byte; lengths that sum to one more, and to one less; a
 -- lifetime above the longest; no room
 abbrev answer : ℕ → ℕ → List (List ℕ) → ℕ → WriteAnswer
 answer mode lifetime ps room = writePolicyAnswer mode lifetime (flatten ps) (lengthsOf ps) room
 
 refusals : answer 0 31557601 [] 0 ∷ answer 4 0 (text "a" ∷ []) 99 ∷ answer 1 31557601 [] 0 ∷ answer 2 0 [] 99 ∷ answer 3 0 (replicate 17 (text "a")) 200 ∷ answer 3 0 (replicate 16 (text "a")) 200
-    ∷ answer 1 0 (text "a" ∷ text "b." ∷ []) 99 ∷ answer 1 0 (text "a" ∷ [] ∷ []) 99 ∷ writePolicyAnswer 1 0 (text "a") (0 ∷ 0 ∷ 0 ∷ 1 ∷ 0 ∷ []) 99 ∷ writePolicyAnswer 1 0 (text "a") (0 ∷ 0 ∷ 0 ∷ 2 ∷ []) 99
+    ∷ answer 1 0 (text "a" ∷ text "b." ∷ []) 99 ∷ answer 1 0 (text "a" ∷ [] ∷ []) 99 ∷ writePolicyAnswer 1 0 (text "a") (0 ∷ 0 ∷ 0 ∷ 1 ∷ 0 ∷ []) 99 ∷ writePolicyAnswer 1 0 (text "a") (0 ∷ 0 ∷ 0 ∷ 2 ∷ []) 99 ∷ writePolicyAnswer 1 0 (text "ab") (0 ∷ 0 ∷ 0 ∷ 1 ∷ []) 99
     ∷ answer 1 31557601 (text "a" ∷ []) 0 ∷ answer 1 0 (text "a" ∷ []) 45 ∷ answer 1 0 (text "a" ∷ []) 46 ∷ []
     ≡ refusal 67 ∷ refusal 67 ∷ refusal 81 ∷ refusal 81 ∷ refusal 81 ∷ success 133
-    ∷ refusal 81 ∷ refusal 81 ∷ refusal 81 ∷ refusal 81
+    ∷ refusal 81 ∷ refusal 81 ∷ refusal 81 ∷ refusal 81 ∷ refusal 81
     ∷ refusal 82 ∷ refusal 83 ∷ success 46 ∷ []
 unfolding flatten written numbers isWhole sum cut sumsTo writePolicyAnswer writeAnswer answerUnless writeRefusal refusalOf policyChecks patternsFit countFits policyText fieldLine mxLines modeText decimal decimalIn all split toFirst labelByte isLabel isName isStarred isWildcard isPattern
 refusals = refl
@@ -99,8 +99,18 @@ largest : length longest-pattern ∷ answer 1 31557600 (replicate 16 longest-pat
 unfolding longest-pattern flatten written numbers isWhole sum cut sumsTo writePolicyAnswer writeAnswer answerUnless writeRefusal refusalOf policyChecks patternsFit countFits policyText fieldLine mxLines modeText decimal decimalIn all split toFirst labelByte isLabel isName isStarred isWildcard isPattern
 largest = refl
 
--- a body anew: CRLF, blanks, other fields, a second mode, a lifetime that is capped, one with zeros at its front, the last line's end left out
+-- rewriting: CRLF, blanks, other fields, a second mode, a lifetime that is capped, one with zeros at its front, the last line's end left out
 anew : rewriteOutput (text "x: y\r\nmode:enforce\t\r\nmx:  A.b\nmode: none\nmx: *.c\nversion: STSv1\nmax_age: 9999999999") (dots 67) ∷ rewriteOutput (text "max_age: 007\nmode: none\nversion: STSv1\nversion: 2\n") (dots 44) ∷ rewriteOutput example (dots 109) ∷ []
     ≡ text "version: STSv1\nmode: enforce\nmx: A.b\nmx: *.c\nmax_age: 31557600\n...." ∷ text "version: STSv1\nmode: none\nmax_age: 7\n......." ∷ example ∷ []
 unfolding dots rewriteOutput writeOutput unlessRefused writeRefusal refusalOf rewriteChecks textOf policyText fieldLine mxLines modeText decimal decimalIn all any agree sameByte spanOf indexOf split toFirst labelByte isLabel isName isStarred isWildcard isPattern cappedAge blank trimmedLength letterOrDigit nameByte isFieldName hasName utf8Tail utf8Two utf8Three utf8Four printable isText isValue lines lineStart nameOf valueOf isLine isNamed firstNamed patterns isVersion modeOf isDigit decimalAfter ageOf isThere isFirst causeAfter faultAt orLater firstFault bodyFault modeIn ageIn hasPatterns complete completed judged readBody modeNumber causeNumber faultAnswer answerTo policyAnswer
 anew = refl
+
+-- refusals: a bad mode, a bad max_age, no version, 17 patterns; 16 patterns, in 132 bytes and in 133
+abbrev mx : ℕ → List ℕ
+mx n = flatten (replicate n (text "mx: a\n"))
+
+again : rewriteAnswer (text "mode: x\n") 99 ∷ rewriteAnswer (text "max_age: 1s\n") 99 ∷ rewriteAnswer (text "mode: none\nmax_age: 1\n" ++ mx 17) 0 ∷ rewriteAnswer (text "version: STSv1\nmode: none\nmax_age: 1\n" ++ mx 17) 0
+    ∷ rewriteAnswer (text "version: STSv1\nmode: none\nmax_age: 1\n" ++ mx 16) 132 ∷ rewriteAnswer (text "version: STSv1\nmode: none\nmax_age: 1\n" ++ mx 16) 133 ∷ []
+    ≡ refusal 55 ∷ refusal 56 ∷ refusal 52 ∷ refusal 81 ∷ refusal 83 ∷ success 133 ∷ []
+unfolding rewriteAnswer writeAnswer answerUnless writeRefusal refusalOf rewriteChecks textOf policyText fieldLine mxLines modeText decimal decimalIn all any agree sameByte spanOf indexOf split toFirst labelByte isLabel isName isStarred isWildcard isPattern cappedAge blank trimmedLength letterOrDigit nameByte isFieldName hasName utf8Tail utf8Two utf8Three utf8Four printable isText isValue lines lineStart nameOf valueOf isLine isNamed firstNamed patterns isVersion modeOf isDigit decimalAfter ageOf isThere isFirst causeAfter faultAt orLater firstFault bodyFault modeIn ageIn hasPatterns complete completed judged readBody modeNumber causeNumber faultAnswer answerTo policyAnswer flatten
+again = refl

@@ -65,7 +65,7 @@ writePolicyAnswer mode lifetime patterns lengths room = writeAnswer (policyCheck
 unfoldable pub writePolicyOutput : (mode lifetime : ℕ) (patterns lengths out : List ℕ) → List ℕ
 writePolicyOutput mode lifetime patterns lengths out = writeOutput (policyChecks mode lifetime patterns lengths) (policyOf mode lifetime patterns lengths) out
 
--- ---- a body anew: "Rewriting takes a body (50 to 52, then 81 for over 16 patterns, 83) and keeps mode, lifetime and patterns in order, but no other field."
+-- ---- rewriting a body: "Rewriting takes a body (50 to 52, then 81 for over 16 patterns, 83) and keeps mode, lifetime and patterns in order, but no other field."
 
 -- the reader's refusal, 50, 53 to 57 or 52; then the count of mx lines
 unfoldable pub rewriteChecks : List ℕ → List Check

@@ -1,4 +1,4 @@
-// What a domain publishes (RFC 8461, 3.1 and 3.2): the TXT text, the policy body, and a body anew.
+// What a domain publishes (RFC 8461, 3.1 and 3.2): the TXT text and the policy body, and rewriting a body.
 ghost use mathlib.Core.Path.{_≡_};
 ghost use mathlib.Core.Bool.{true};
 ghost use Prim.Native.Nat.{_+_, _<_, _≤_};
@@ -128,23 +128,34 @@ fn patterns_fit(mode: u64, patterns: &[u8], lengths: &[u8]) -> bool
     all_patterns(patterns, lengths)
 }
 
-// Writes the lines before the mx lines over the front of the output, and says where they end.
-fn write_head(mode: u64, output: &mut [u8]) -> usize
+// How many bytes the lines before the mx lines have.
+fn head_length(mode: u64) -> usize
+    ensures { λ r. ⌜ (r ≡ length (headText (modeFrom mode))) × (r ≤ 29) ⌝ }
+{
+    if mode == policies::ENFORCE {
+        return 29;
+    }
+    if mode == policies::TESTING {
+        return 29;
+    }
+    26
+}
+
+// Writes the lines before the mx lines over the front of the output.
+fn write_head(mode: u64, output: &mut [u8])
     requires { ⌜ length (headText (modeFrom mode)) ≤ length (now output) ⌝ }
-    ensures { λ r. ⌜ r ≡ length (headText (modeFrom mode)) ⌝ }
     ensures { λ _. ⌜ now (output .exit) ≡ over 0 (headText (modeFrom mode)) (now (output .entry)) ⌝ }
 {
     writing::put(b"version: STSv1\nmode: ", output, 0);
     if mode == policies::ENFORCE {
         writing::put(b"enforce\n", output, 21);
-        return 29;
+        return;
     }
     if mode == policies::TESTING {
         writing::put(b"testing\n", output, 21);
-        return 29;
+        return;
     }
     writing::put(b"none\n", output, 21);
-    26
 }
 
 // Writes the line of the lifetime from `at` on, and says where it ends.
@@ -186,22 +197,10 @@ fn write_body(mode: u64, lifetime: u64, patterns: &[u8], lengths: &[u8], output:
     ensures { λ r. ⌜ r ≡ length (policyOf mode lifetime (now (patterns .entry)) (now (lengths .entry))) ⌝ }
     ensures { λ _. ⌜ now (output .exit) ≡ over 0 (policyOf mode lifetime (now (patterns .entry)) (now (lengths .entry))) (now (output .entry)) ⌝ }
 {
-    let head = write_head(mode, output);
+    write_head(mode, output);
+    let head = head_length(mode);
     let end = write_patterns(patterns, lengths, output, head);
     write_age(lifetime, output, end)
-}
-
-// How many bytes the lines before the mx lines have.
-fn head_length(mode: u64) -> usize
-    ensures { λ r. ⌜ (r ≡ length (headText (modeFrom mode))) × (r ≤ 29) ⌝ }
-{
-    if mode == policies::ENFORCE {
-        return 29;
-    }
-    if mode == policies::TESTING {
-        return 29;
-    }
-    26
 }
 
 // How many digits a lifetime has.
@@ -212,7 +211,7 @@ fn age_length(lifetime: u64) -> usize
     writing::decimal_length(lifetime)
 }
 
-// How many bytes a body has whose mx lines have m.
+// How many bytes a body has whose mx lines have m. The bound on m, 65,536 lines of 65,541 bytes, keeps the sum from wrapping.
 fn body_length(mode: u64, lifetime: u64, m: usize) -> usize
     requires { ⌜ (lifetime ≤ longest) × (m ≤ 5000000000) ⌝ }
     ensures { λ r. ⌜ r ≡ bodyLength (modeFrom mode) lifetime m ⌝ }
@@ -327,7 +326,7 @@ fn lines_length(body: &[u8]) -> usize
     n
 }
 
-// Writes the mx lines of a body anew from `from` on, and says where they end.
+// Rewrites the mx lines of a body from `from` on, and says where they end.
 fn write_lines(body: &[u8], output: &mut [u8], from: usize) -> usize
     requires { ⌜ (length (now body) ≤ 65536) × (from + length (mxLines (patternsOf (now body))) ≤ length (now output)) ⌝ }
     ensures { λ r. ⌜ r ≡ from + length (mxLines (patternsOf (now (body .entry)))) ⌝ }
@@ -343,7 +342,7 @@ fn write_lines(body: &[u8], output: &mut [u8], from: usize) -> usize
     to
 }
 
-// The same as `body_fits`, of a body that is written anew.
+// The same as `body_fits`, of a body that is rewritten.
 fn rewritten_fits(mode: u64, lifetime: u64, body: &[u8], room: usize) -> bool
     requires { ⌜ (length (now body) ≤ 65536) × (lifetime ≤ longest) × (length (policyText (modeFrom mode) lifetime (patternsOf (now body))) ≤ 4207) ⌝ }
     ensures { λ r. ⌜ r ≡ leb (length (policyText (modeFrom mode) lifetime (patternsOf (now (body .entry))))) room ⌝ }
@@ -356,18 +355,19 @@ fn rewritten_fits(mode: u64, lifetime: u64, body: &[u8], room: usize) -> bool
     size <= room
 }
 
-// Writes a body anew over the front of the output, which has room for it, and says how long it is.
+// Rewrites a body over the front of the output, which has room for it, and says how long it is then.
 fn rewrite_body(mode: u64, lifetime: u64, body: &[u8], output: &mut [u8]) -> usize
     requires { ⌜ (length (now body) ≤ 65536) × (length (policyText (modeFrom mode) lifetime (patternsOf (now body))) ≤ length (now output)) ⌝ }
     ensures { λ r. ⌜ r ≡ length (policyText (modeFrom mode) lifetime (patternsOf (now (body .entry)))) ⌝ }
     ensures { λ _. ⌜ now (output .exit) ≡ over 0 (policyText (modeFrom mode) lifetime (patternsOf (now (body .entry)))) (now (output .entry)) ⌝ }
 {
-    let head = write_head(mode, output);
+    write_head(mode, output);
+    let head = head_length(mode);
     let lines = write_lines(body, output, head);
     write_age(lifetime, output, lines)
 }
 
-// Writes a policy body anew, with its mode, lifetime and patterns and no other field: 15 and the length, or 50, 53 to 57, 52, 81, 83 and the output as it was.
+// Rewrites a policy body, with its mode, lifetime and patterns and no other field: 15 and the length, or 50, 53 to 57, 52, 81, 83 and the output as it was.
 pub fn rewrite_policy(body: &[u8], output: &mut [u8]) -> WriteAnswer
     ensures { λ r. ⌜ r ≡ rewriteAnswer (now (body .entry)) (length (now (output .entry))) ⌝ }
     ensures { λ _. ⌜ now (output .exit) ≡ rewriteOutput (now (body .entry)) (now (output .entry)) ⌝ }

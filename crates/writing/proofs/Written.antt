@@ -11,16 +11,16 @@ use lib.Seq.{take-append-seam, drop-at}
 use borrow.Author.Tests.{le-leb}
 use Rattle.lists.specs.Check.{Check, refusalOf}
 use Rattle.lists.proofs.Check.{checks-more, checks-refused}
+use Rattle.writing.specs.declared.WriteAnswer.{WriteAnswer}
 use Rattle.writing.specs.Answer.{answerUnless, unlessRefused, roomCheck, writeRefusal, writeAnswer, writeOutput}
 
--- a call that succeeded: no check refused it, the text fits, and it stands at the front of the output, whose rest is as it was
-pub record Wrote (checks : List Check) (t out : List ℕ) : Type 0 where
-  pub passed : refusalOf checks ≡ none
-  pub fits : length t ≤ length out
-  pub size : writeAnswer checks t (length out) .length ≡ length t
-  pub front : take (length t) (writeOutput checks t out) ≡ t
-  pub rest : drop (length t) (writeOutput checks t out) ≡ drop (length t) out
-  pub as-long : length (writeOutput checks t out) ≡ length out
+-- a call that wrote the text t: what it answered, and the output `after` it, which was `out`: the text stands at its front, and the rest is as it was
+pub record Wrote (t out : List ℕ) (answer : WriteAnswer) (after : List ℕ) : Type 0 where
+  pub number : answer .number ≡ 15
+  pub size : answer .length ≡ length t
+  pub front : take (length t) after ≡ t
+  pub rest : drop (length t) after ≡ drop (length t) out
+  pub as-long : length after ≡ length out
 
 module _ (checks : List Check) (t out : List ℕ) where
   -- the first check that fails decides; where none does, the room
@@ -33,13 +33,12 @@ module _ (checks : List Check) (t out : List ℕ) where
   by-check k e = checks-refused checks (roomCheck t (length out) ∷ []) k e
 
   -- so a call succeeds where no check refuses it and the text fits
-  pub wrote : refusalOf checks ≡ none → length t ≤ length out → Wrote checks t out
+  pub wrote : refusalOf checks ≡ none → length t ≤ length out → Wrote t out (writeAnswer checks t (length out)) (writeOutput checks t out)
   unfolding writeAnswer answerUnless writeOutput unlessRefused
   wrote p l =
       let e : writeRefusal checks t (length out) ≡ none = by-room p ∙ rw (le-leb (length t) (length out) l) in
       record {
-        passed = p;
-        fits = l;
+        number = rw e;
         size = rw e;
         front = rw e (take-append-seam t (drop (length t) out));
         rest = rw e (drop-at t (drop (length t) out) (length t) refl);
