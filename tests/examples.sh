@@ -235,6 +235,11 @@ same() { # same FILE FILE WORDS
 rfc=(enforce 604800 mail.example.com '*.example.net' backupmx.example.com)
 tr -d '\r' <$domain/policy.txt >"$files/rfc"
 publishes 20160831085700Z "$(<"$files/rfc")" --id 20160831085700Z "${rfc[@]}"
+shown=$(awk '/^    \$ target\/c\/publish/ { shown = 1; next } shown && /^[^ ]/ { exit } shown { sub(/^    /, ""); print }' README.md)
+if ! diff <(echo "$shown") "$files/printed"; then
+    echo "README.md shows (<) what publish does not print"
+    failed=1
+fi
 policy_printed >"$files/policy.txt"
 same "$files/rfc" "$files/policy.txt" "the policy of RFC 8461 has other bytes"
 sed -n 's/^_mta-sts IN TXT "\(.*\)"$/\1/p' "$files/printed" >"$files/records.txt"
