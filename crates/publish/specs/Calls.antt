@@ -22,6 +22,7 @@ use Rattle.publish.specs.Texts.{txtText, policyText}
 
 -- ---- the TXT text of an id
 
+-- what is checked before 83
 unfoldable pub txtChecks : List ℕ → List Check
 txtChecks id = record { passes = isId id; refusal = 80 } ∷ []
 
@@ -49,6 +50,7 @@ countFits M.None n = leb n 16
 unfoldable pub patternsFit : Mode → List ℕ → List ℕ → Bool
 patternsFit mode patterns lengths = sumsTo lengths (length patterns) && countFits mode (length (numbers lengths)) && all isPattern (cut patterns (numbers lengths))
 
+-- what is checked before 83, in this order
 unfoldable pub policyChecks : (mode lifetime : ℕ) (patterns lengths : List ℕ) → List Check
 policyChecks mode lifetime patterns lengths =
     record { passes = within 1 3 mode; refusal = 67 }
@@ -56,18 +58,21 @@ policyChecks mode lifetime patterns lengths =
     ∷ record { passes = leb lifetime longest; refusal = 82 }
     ∷ []
 
+-- the body
 abbrev pub policyOf : (mode lifetime : ℕ) (patterns lengths : List ℕ) → List ℕ
 policyOf mode lifetime patterns lengths = policyText (modeFrom mode) lifetime (cut patterns (numbers lengths))
 
+-- the answer, where the output has `room` bytes
 unfoldable pub writePolicyAnswer : (mode lifetime : ℕ) (patterns lengths : List ℕ) (room : ℕ) → WriteAnswer
 writePolicyAnswer mode lifetime patterns lengths room = writeAnswer (policyChecks mode lifetime patterns lengths) (policyOf mode lifetime patterns lengths) room
 
+-- the output afterwards
 unfoldable pub writePolicyOutput : (mode lifetime : ℕ) (patterns lengths out : List ℕ) → List ℕ
 writePolicyOutput mode lifetime patterns lengths out = writeOutput (policyChecks mode lifetime patterns lengths) (policyOf mode lifetime patterns lengths) out
 
 -- ---- rewriting a body: "Rewriting takes a body (50 to 52, then 81 for over 16 patterns, 83) and keeps mode, lifetime and patterns in order, but no other field."
 
--- the reader's refusal, 50, 53 to 57 or 52; then the count of mx lines
+-- what is checked before 83, in this order: the reader's refusal, 50, 53 to 57 or 52; then the count of mx lines
 unfoldable pub rewriteChecks : List ℕ → List Check
 rewriteChecks body =
     record { passes = eqb (policyAnswer body .number) 7; refusal = policyAnswer body .number }
@@ -81,11 +86,14 @@ textOf (malformed fault) = []
 textOf incomplete = []
 textOf (policy p) = policyText (p .mode) (p .lifetime .0) (p .patterns)
 
+-- the new body
 abbrev pub rewritten : List ℕ → List ℕ
 rewritten body = textOf (readBody body)
 
+-- the answer, where the output has `room` bytes
 unfoldable pub rewriteAnswer : (body : List ℕ) (room : ℕ) → WriteAnswer
 rewriteAnswer body room = writeAnswer (rewriteChecks body) (rewritten body) room
 
+-- the output afterwards
 unfoldable pub rewriteOutput : (body out : List ℕ) → List ℕ
 rewriteOutput body out = writeOutput (rewriteChecks body) (rewritten body) out
