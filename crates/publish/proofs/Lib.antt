@@ -2,9 +2,9 @@ pub mod Digits
 pub mod Values
 pub mod PolicyBack
 pub mod TxtBack
-pub mod Ways
-pub mod Bodies
-pub mod Rewriting
+pub mod TxtReturns
+pub mod PolicyReturns
+pub mod RewriteReturns
 pub mod Exactly
 pub mod Published
 pub mod Worked

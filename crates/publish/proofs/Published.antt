@@ -29,7 +29,7 @@ use Rattle.publish.specs.Texts.{txtText, policyText}
 use Rattle.publish.specs.Calls.{txtChecks, writeTxtAnswer, writeTxtOutput, modeFrom, countFits, patternsFit, policyChecks, policyOf, writePolicyAnswer, writePolicyOutput, rewriteChecks, textOf, rewritten, rewriteAnswer, rewriteOutput}
 use Rattle.publish.proofs.TxtBack.{asString, txt-length, txt-most, txt-back}
 use Rattle.publish.proofs.PolicyBack.{fieldsOf, policy-fields, policy-back, policy-kept, kept-fields, kept-most}
-use Rattle.publish.proofs.Bodies.{fit-parts, given-most}
+use Rattle.publish.proofs.PolicyReturns.{fit-parts, given-most}
 use Rattle.publish.proofs.Exactly.{txt-15, txt-83, policy-15, policy-83, rewrite-15, rewrite-83}
 
 -- ---- the TXT text of an id

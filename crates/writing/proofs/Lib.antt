@@ -1,4 +1,4 @@
 pub mod Over
 pub mod Decimal
 pub mod Written
-pub mod Ways
+pub mod WriteReturns

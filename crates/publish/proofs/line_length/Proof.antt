@@ -1,5 +1,5 @@
 -- `publish::line_length` meets its contract. Assumes nothing.
-use Rattle.publish.proofs.Rewriting.{line-length-laws}
+use Rattle.publish.proofs.RewriteReturns.{line-length-laws}
 use Rattle.publish.proofs.line_length.Statement.{statement}
 use Rattle.publish.proofs.line_length.Tie as tie
 

@@ -1,5 +1,5 @@
 -- `publish::rewrite_policy` meets its contract. Assumes nothing.
-use Rattle.publish.proofs.Rewriting.{again-laws}
+use Rattle.publish.proofs.RewriteReturns.{again-laws}
 use Rattle.publish.proofs.rewrite_policy.Statement.{statement}
 use Rattle.publish.proofs.rewrite_policy.Tie as tie
 

@@ -1,5 +1,5 @@
 -- `publish::rewritten_fits` meets its contract. Assumes nothing.
-use Rattle.publish.proofs.Bodies.{fits-laws}
+use Rattle.publish.proofs.PolicyReturns.{fits-laws}
 use Rattle.publish.proofs.rewritten_fits.Statement.{statement}
 use Rattle.publish.proofs.rewritten_fits.Tie as tie
 

@@ -1,5 +1,5 @@
 -- `publish::write_age` meets its contract. Assumes nothing.
-use Rattle.publish.proofs.Bodies.{write-age-laws}
+use Rattle.publish.proofs.PolicyReturns.{write-age-laws}
 use Rattle.publish.proofs.write_age.Statement.{statement}
 use Rattle.publish.proofs.write_age.Tie as tie
 

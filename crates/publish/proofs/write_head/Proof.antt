@@ -1,5 +1,5 @@
 -- `publish::write_head` meets its contract. Assumes nothing.
-use Rattle.publish.proofs.Bodies.{write-head-laws}
+use Rattle.publish.proofs.PolicyReturns.{write-head-laws}
 use Rattle.publish.proofs.write_head.Statement.{statement}
 use Rattle.publish.proofs.write_head.Tie as tie
 

@@ -1,5 +1,5 @@
 -- `publish::write_line` meets its contract. Assumes nothing.
-use Rattle.publish.proofs.Rewriting.{write-line-laws}
+use Rattle.publish.proofs.RewriteReturns.{write-line-laws}
 use Rattle.publish.proofs.write_line.Statement.{statement}
 use Rattle.publish.proofs.write_line.Tie as tie
 

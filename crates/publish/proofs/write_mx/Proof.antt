@@ -1,5 +1,5 @@
 -- `publish::write_mx` meets its contract. Assumes nothing.
-use Rattle.publish.proofs.Ways.{mx-line-laws}
+use Rattle.publish.proofs.PolicyReturns.{mx-line-laws}
 use Rattle.publish.proofs.write_mx.Statement.{statement}
 use Rattle.publish.proofs.write_mx.Tie as tie
 

@@ -6,7 +6,7 @@ use Rattle.numbers.specs.Numbers.{numbers}
 use Rattle.numbers.specs.Pieces.{cut}
 use Rattle.writing.specs.Over.{over}
 use Rattle.publish.specs.Texts.{mxLines}
-use Rattle.publish.proofs.Bodies.{mx-laws, mx-same, mx-places, mx-next, mx-end, mx-written}
+use Rattle.publish.proofs.PolicyReturns.{mx-laws, mx-same, mx-places, mx-next, mx-end, mx-written}
 use Rattle.numbers.proofs.Pieces.{end-within}
 use borrow.Author.Needs.{needs}
 use Rattle.publish.proofs.write_patterns.Statement.{statement}

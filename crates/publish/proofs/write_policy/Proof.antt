@@ -1,6 +1,6 @@
 -- `publish::write_policy` meets its contract. Assumes nothing.
 use borrow.Author.Tests.{not-false}
-use Rattle.publish.proofs.Bodies.{policy-laws, room-is}
+use Rattle.publish.proofs.PolicyReturns.{policy-laws, room-is}
 use Rattle.publish.proofs.write_policy.Statement.{statement}
 use Rattle.publish.proofs.write_policy.Tie as tie
 

@@ -1,4 +1,4 @@
--- Rewriting a body: its lines one by one, and the call. Assumes nothing.
+-- What `rewrite_policy` and the functions below it return and leave: a body's lines one by one, and the call. Assumes nothing.
 use Prim.Native.Nat.{ℕ, _+_, _-_, _<_, _≤_}
 use mathlib.Core.Path.{_≡_, refl, sym, ap, _∙_}
 use mathlib.Core.Bool.{Bool, true, false, cond}
@@ -29,12 +29,12 @@ use Rattle.writing.specs.declared.WriteAnswer.{WriteAnswer}
 use Rattle.writing.specs.Over.{over}
 use Rattle.writing.specs.Answer.{refusal, success}
 use Rattle.writing.proofs.Over.{over-nothing, step-is, step-length}
-use Rattle.writing.proofs.Ways.{refused-answer, refused-kept, short-answer, short-kept, done-answer, done-written}
+use Rattle.writing.proofs.WriteReturns.{refused-answer, refused-kept, short-answer, short-kept, done-answer, done-written}
 use Rattle.publish.specs.Texts.{fieldLine, mxLines, policyText}
 use Rattle.publish.specs.Calls.{modeFrom, rewriteChecks, textOf, rewritten, rewriteAnswer, rewriteOutput}
 use Rattle.publish.specs.Steps.{keptLine}
 use Rattle.publish.proofs.PolicyBack.{line-length, kept-most}
-use Rattle.publish.proofs.Bodies.{room-is}
+use Rattle.publish.proofs.PolicyReturns.{room-is}
 
 -- `line_length` and `write_line`: k is the line, r what `is_mx_at` gave, l the part that `line_to` gave, v what `line_value` gave
 module _ (k : List ℕ) (r : Bool) (is : r ≡ isNamed (text "mx") k) where

@@ -1,22 +1,22 @@
--- The body piece by piece: its lines before and after the mx lines, the loop over the patterns, and the whole. Assumes nothing.
+-- What `write_policy` and the functions below it return and leave: the checks of its arguments, the body piece by piece, and the call. Assumes nothing.
 use Prim.Native.Nat.{ℕ, _+_, _*_, _-_, _<_, _≤_}
 use mathlib.Core.Path.{_≡_, refl, sym, ap, _∙_}
-use mathlib.Core.Bool.{Bool, true, false, _&&_}
+use mathlib.Core.Bool.{Bool, true, false, _&&_, and-true, and-false}
 use mathlib.Core.List.{List, [], _∷_, _++_, append-assoc, flatten}
 use mathlib.Core.Option.{none, some}
 use native.Mathlib.Omega.{arith}
-use lib.Dec.{leb}
+use lib.Dec.{leb, ltb}
 use lib.ListN.{length, getD, take, drop, length-append}
 use borrow.Author.Needs.{needs}
 use borrow.Author.Tests.{not-true, not-false, leb-true, leb-false, le-leb, lt-leb, eq-eqb, ne-eqb}
 use Rattle.lists.specs.Bytes.{within, all}
 use Rattle.lists.specs.Check.{refusalOf}
 use Rattle.lists.specs.Text.{text}
-use Rattle.lists.proofs.Bools.{and-both}
-use Rattle.numbers.specs.Numbers.{numbers}
+use Rattle.lists.proofs.Bools.{and-both, and-left, never}
+use Rattle.numbers.specs.Numbers.{numbers, atMost}
 use Rattle.names.specs.Name.{isPattern}
-use Rattle.numbers.specs.Pieces.{cut, sumsTo, endOf}
-use Rattle.numbers.proofs.Pieces.{cut-next, cut-end, cut-count, cut-joined, sums-true, end-after, end-within}
+use Rattle.numbers.specs.Pieces.{cut, sumsTo, endOf, upTo}
+use Rattle.numbers.proofs.Pieces.{cut-next, cut-end, cut-count, cut-joined, sums-true, end-after, end-within, sizes}
 use Rattle.clock.specs.Clock.{longest}
 use Rattle.policies.specs.declared.Mode.{Mode}
 use Rattle.policies.specs.declared.Mode.the-variants as M
@@ -25,7 +25,7 @@ use Rattle.policies.specs.Paper.{modeText}
 use Rattle.writing.specs.declared.WriteAnswer.{WriteAnswer}
 use Rattle.writing.specs.Over.{over}
 use Rattle.writing.specs.Answer.{refusal, success}
-use Rattle.writing.proofs.Ways.{refused-answer, refused-kept, short-answer, short-kept, done-answer, done-written}
+use Rattle.writing.proofs.WriteReturns.{refused-answer, refused-kept, short-answer, short-kept, done-answer, done-written}
 use Rattle.writing.specs.Decimal.{decimal}
 use Rattle.writing.proofs.Over.{over-nothing, step-is, step-fits, step-length}
 use Rattle.publish.specs.Texts.{fieldLine, mxLines, policyText}
@@ -33,6 +33,91 @@ use Rattle.publish.specs.Calls.{modeFrom, countFits, patternsFit, policy
 use Rattle.publish.specs.Steps.{headText, ageLine, bodyLength}
 use Rattle.publish.proofs.Digits.{age-most}
 use Rattle.publish.proofs.PolicyBack.{line-length, mx-most, count-few, policy-most}
+use Rattle.lists.proofs.All.{all-more}
+use Rattle.publish.proofs.Values.{pattern-short}
+
+-- `write_mx`: three pieces, one after another
+module _ (v out : List ℕ) (at : ℕ) where
+  pub mx-line-end : at + 4 + length v + 1 ≡ at + length (fieldLine (text "mx") v)
+  mx-line-end = omega (arith, line-length (text "mx") v)
+
+  pub mx-line-written : at + (length v + 5) ≤ length out → (x y z : List ℕ) → x ≡ over at (text "mx: ") out → y ≡ over (at + 4) v x → z ≡ over (at + 4 + length v) (LF ∷ []) y → z ≡ over at (fieldLine (text "mx") v) out
+  unfolding fieldLine
+  mx-line-written h x y z p q r =
+      let room : at + length (text "mx: " ++ (v ++ (LF ∷ []))) ≤ length out = omega (arith, length-append v (LF ∷ [])) in
+      let a : at + 4 + length (v ++ (LF ∷ [])) ≤ length x = step-fits at (at + 4) (text "mx: ") (v ++ (LF ∷ [])) out x p refl room in
+      sym (step-is at (at + 4) (text "mx: ") (v ++ (LF ∷ [])) out x p refl room
+      ∙ (step-is (at + 4) (at + 4 + length v) v (LF ∷ []) x y q refl a ∙ sym r))
+
+pub ruleset mx-line-laws = (mx-line-end, mx-line-written, needs)
+
+-- `is_mode`
+module _ (mode : ℕ) where
+  pub mode-low : mode < 1 → false ≡ within 1 3 mode
+  mode-low h = rw (lt-leb 1 mode h)
+
+  pub mode-high : 1 ≤ mode → leb mode 3 ≡ within 1 3 mode
+  mode-high h = rw (le-leb 1 mode h)
+
+pub ruleset mode-laws = (mode-low, mode-high, needs)
+
+-- `count_fits`
+count-over-any : (m : Mode) (n : ℕ) → 16 < n → false ≡ countFits m n
+unfolding countFits
+count-over-any M.Enforce n h = rw (lt-leb n 16 h) (sym (and-false (leb 1 n)))
+count-over-any M.Testing n h = rw (lt-leb n 16 h) (sym (and-false (leb 1 n)))
+count-over-any M.None n h = rw (lt-leb n 16 h)
+
+module _ (mode n : ℕ) where
+  pub count-over : 16 < n → false ≡ countFits (modeFrom mode) n
+  count-over h = count-over-any (modeFrom mode) n h
+
+  module _ (h : n ≤ 16) where
+    pub count-enforce : mode ≡ 1 → ltb 0 n ≡ countFits (modeFrom mode) n
+    unfolding countFits
+    count-enforce e = rw (eq-eqb mode 1 e, le-leb n 16 h) (sym (and-true (leb 1 n)))
+
+    pub count-testing : (mode ≡ 1 → ⊥) → mode ≡ 2 → ltb 0 n ≡ countFits (modeFrom mode) n
+    unfolding countFits
+    count-testing d e = rw (ne-eqb mode 1 d, eq-eqb mode 2 e, le-leb n 16 h) (sym (and-true (leb 1 n)))
+
+    pub count-none : (mode ≡ 1 → ⊥) → (mode ≡ 2 → ⊥) → true ≡ countFits (modeFrom mode) n
+    unfolding countFits
+    count-none d e = rw (ne-eqb mode 1 d, ne-eqb mode 2 e, le-leb n 16 h)
+
+pub ruleset count-laws = (count-over, count-enforce, count-testing, count-none, needs)
+
+-- `patterns_fit`: w, n, c and v are what its calls gave
+pattern-upto : (p : List ℕ) → isPattern p ≡ true → upTo 255 p ≡ true
+unfolding upTo
+pattern-upto p h = le-leb (length p) 255 (pattern-short p h .1)
+
+module _ (m : Mode) (s l : List ℕ) (w : Bool) (sums : w ≡ (sumsTo l (length s) && all (atMost 255) (numbers l))) where
+  pub sums-bad : w ≡ false → false ≡ patternsFit m s l
+  unfolding patternsFit
+  sums-bad t = go (sumsTo l (length s)) refl (all isPattern (cut s (numbers l))) refl
+    where
+      go : (a : Bool) → sumsTo l (length s) ≡ a → (b : Bool) → all isPattern (cut s (numbers l)) ≡ b → false ≡ (a && countFits m (length (numbers l)) && b)
+      go false p b q = refl
+      go true p false q = sym (and-false (countFits m (length (numbers l))))
+      go true p true q =
+          let k : all (atMost 255) (numbers l) ≡ true = sym (sizes 255 s l true (sym p) refl) ∙ all-more isPattern (upTo 255) pattern-upto (cut s (numbers l)) q in
+          never (cc k)
+
+  module _ (t : w ≡ true) where
+    sums-is : sumsTo l (length s) ≡ true
+    sums-is = and-left (sumsTo l (length s)) (all (atMost 255) (numbers l)) (sym sums ∙ t)
+
+    module _ (n : ℕ) (counted : n ≡ length (numbers l)) (c : Bool) (fits : c ≡ countFits m n) where
+      pub count-bad : c ≡ false → false ≡ patternsFit m s l
+      unfolding patternsFit
+      count-bad f = cc sums-is
+
+      pub patterns-are : c ≡ true → (v : Bool) → v ≡ all isPattern (cut s (numbers l)) → v ≡ patternsFit m s l
+      unfolding patternsFit
+      patterns-are f v e = cc sums-is
+
+pub ruleset fit-laws = (sums-bad, count-bad, patterns-are, not-true, not-false, needs)
 
 -- `head_length`, and the words of `write_head`
 head-size : (m : Mode) → length (headText m) ≡ 22 + length (modeText m)

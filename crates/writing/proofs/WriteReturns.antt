@@ -1,4 +1,4 @@
--- The ways out of a call that writes a text: r is its answer, out the output before it. Assumes nothing.
+-- What a call that writes a text returns and leaves, path by path: r is its answer, out the output before it. Assumes nothing.
 use Prim.Native.Nat.{ℕ, _<_, _≤_}
 use mathlib.Core.Path.{_≡_, _∙_}
 use mathlib.Core.List.{List}
