@@ -23,7 +23,7 @@ static struct answer call_judge_host(const struct implementation *implementation
         f->origin, f->host.at, f->host.length, f->address, f->expanded.at, f->expanded.length, f->policy_given, f->policy.at, f->policy.length, f->fetched, f->tlsa_answers,
         f->tlsa[0].result, f->tlsa[0].lengths.at, f->tlsa[0].lengths.length, f->tlsa[0].records.at, f->tlsa[0].records.length,
         f->tlsa[1].result, f->tlsa[1].lengths.at, f->tlsa[1].lengths.length, f->tlsa[1].records.at, f->tlsa[1].records.length,
-        f->starttls, f->handshake, f->certificates_given, f->certificates.at, f->certificates.length,
+        f->starttls, f->handshake, f->tls_version, f->certificates_given, f->certificates.at, f->certificates.length,
         f->certificate_lengths.at, f->certificate_lengths.length, f->key_places.at, f->key_places.length,
         f->digests.at, f->digests.length, f->paths.at, f->paths.length, f->trusted_root,
         f->dns_ids.at, f->dns_ids.length, f->dns_id_lengths.at, f->dns_id_lengths.length,

@@ -606,7 +606,7 @@ static void add_publishing(struct inputs *inputs)
 
 enum { CERTIFICATE = 1500, KEY_START = 300, KEY_INFO = 294, DIGESTS = 192, KEY_SHA256 = 96, SHA256 = 32, RECORD = 3 + SHA256 };
 
-/* Facts up to an established handshake, with certificates and two DNS-IDs; neither TLSA answers nor a policy. */
+/* Facts up to an established handshake at TLS 1.3, with certificates and two DNS-IDs; neither TLSA answers nor a policy. */
 static struct facts facts_with(size_t certificates)
 {
     struct facts f;
@@ -621,6 +621,7 @@ static struct facts facts_with(size_t certificates)
     f.policy_given = TWEEDSTORK_NO_POLICY;
     f.starttls = TWEEDSTORK_STARTTLS_OFFERED;
     f.handshake = TWEEDSTORK_ESTABLISHED;
+    f.tls_version = TWEEDSTORK_TLS_1_3;
     f.certificates_given = TWEEDSTORK_CERTIFICATES_GIVEN;
     f.certificates = room(certificates * CERTIFICATE);
     scramble(f.certificates, 1);
@@ -708,12 +709,18 @@ static struct facts *add_host(struct inputs *inputs, enum table table, const cha
     return &input->facts[0];
 }
 
+const char certificates_beside_old_tls[] = "host, 1 TLSA record 3 1 1, 8 certificates, TLS 1.0";
+
 static void add_single_hosts(struct inputs *inputs)
 {
     struct facts *f = add_host(inputs, CALLS, "host, 1 TLSA record 3 1 1, 8 certificates", 8, TWEEDSTORK_DANE, 1);
 
     give_records(f, 1, 3);
     match(f, 0, 0);
+    f = add_host(inputs, CALLS, certificates_beside_old_tls, 8, TWEEDSTORK_OLD_TLS, 1);
+    give_records(f, 1, 3);
+    match(f, 0, 0);
+    f->tls_version = TWEEDSTORK_TLS_1_0;
     f = add_host(inputs, CALLS, "host, 32 TLSA records 3 1 1, 8 certificates", 8, TWEEDSTORK_DANE, 1);
     give_records(f, 32, 3);
     match(f, 31, 0);
@@ -739,17 +746,19 @@ static void add_single_hosts(struct inputs *inputs)
 
 /* ---- whole decisions ---- */
 
-/* Makes the calls of a relay out of the last one: each has one fact less than the next, back to none learnt. */
+/* Makes the calls of a relay out of the last one: each has one fact less than the next, back to none learnt. Where the last has no certificates, none are asked for. */
 static void make_decision(struct input *input, struct facts f, uint64_t verdict)
 {
     uint64_t questions = f.tlsa_answers;
-    size_t step = input->steps = 4 + questions;
+    size_t step = input->steps = 3 + questions + (f.certificates_given == TWEEDSTORK_CERTIFICATES_GIVEN);
 
     input->facts[--step] = f;
     expect(input, step, verdict, questions, 0, 0);
-    f.certificates_given = TWEEDSTORK_CERTIFICATES_NOT_GIVEN;
-    input->facts[--step] = f;
-    expect(input, step, TWEEDSTORK_ASK_CERTIFICATES, questions, 0, 0);
+    if (f.certificates_given == TWEEDSTORK_CERTIFICATES_GIVEN) {
+        f.certificates_given = TWEEDSTORK_CERTIFICATES_NOT_GIVEN;
+        input->facts[--step] = f;
+        expect(input, step, TWEEDSTORK_ASK_CERTIFICATES, questions, 0, 0);
+    }
     f.handshake = TWEEDSTORK_HANDSHAKE_NOT_GIVEN;
     input->facts[--step] = f;
     expect(input, step, TWEEDSTORK_ASK_HANDSHAKE, questions, 0, 0);
@@ -779,6 +788,11 @@ static void add_decisions(struct inputs *inputs)
     f = facts_with(3);
     give_whole_leaf(&f);
     make_decision(add(inputs, DECISIONS, JUDGE_HOST, whole_certificate_decision), f, TWEEDSTORK_DANE);
+    f = facts_with(3);
+    give_records(&f, 2, 3);
+    f.tls_version = TWEEDSTORK_TLS_1_0;
+    f.certificates_given = TWEEDSTORK_CERTIFICATES_NOT_GIVEN;
+    make_decision(add(inputs, DECISIONS, JUDGE_HOST, "DANE: 4 calls, 2 records 3 1 1, TLS 1.0 (next host)"), f, TWEEDSTORK_OLD_TLS);
 }
 
 /* ---- growth ---- */

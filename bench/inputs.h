@@ -31,7 +31,7 @@ struct facts {
     struct bytes policy;
     uint64_t fetched, tlsa_answers;
     struct tlsa tlsa[2];
-    uint64_t starttls, handshake, certificates_given;
+    uint64_t starttls, handshake, tls_version, certificates_given;
     struct bytes certificates, certificate_lengths, key_places, digests, paths;
     uint64_t trusted_root;
     struct bytes dns_ids, dns_id_lengths;
@@ -87,7 +87,7 @@ struct inputs {
 struct inputs *build_inputs(void);
 
 /* The names of inputs with a promise of their own. */
-extern const char lookup_of_none[], measured_rewriting[], mta_sts_decision[], whole_certificate_decision[];
+extern const char lookup_of_none[], measured_rewriting[], certificates_beside_old_tls[], mta_sts_decision[], whole_certificate_decision[];
 
 /* The first input of a table. */
 const struct input *first_input(const struct inputs *inputs, enum table table);

@@ -622,7 +622,7 @@ struct tweedstork_cache_answer plain_cache_lookup(
 /* ---- a host's facts ---- */
 
 enum {
-    RECORDS_LIMIT = 32, RECORD_LIMIT = 4096,
+    RECORDS_LIMIT = 32, RECORD_LIMIT = 4096, VERSION_LIMIT = 65535,
     CERTIFICATES_LIMIT = 8, CERTIFICATE_LIMIT = 16384, CERTIFICATES_BYTES_LIMIT = 65536,
     DNS_IDS_LIMIT = 64, PRESENTED_NAME_LIMIT = 255,
     SHA256 = 32, SHA512 = 64, DIGESTS = 2 * (SHA256 + SHA512) /* of a certificate and its key info */
@@ -655,7 +655,7 @@ struct facts {
     struct slice policy;
     uint64_t fetched, tlsa_answers;
     struct tlsa_answer tlsa[2];
-    uint64_t starttls, handshake, certificates_given;
+    uint64_t starttls, handshake, tls_version, certificates_given;
     struct shown shown;
 };
 
@@ -675,7 +675,8 @@ static int are_yes_no(struct slice list)
 static int are_codes(const struct facts *f)
 {
     if (!is_yes_no(f->expanded_next_hop_given) || !is_between(f->origin, TWEEDSTORK_SECURE_MX, TWEEDSTORK_NO_MX)
-        || !is_between(f->address, TWEEDSTORK_NO_ALIAS_SECURE, TWEEDSTORK_ADDRESS_ABSENT) || !is_yes_no(f->policy_given) || f->tlsa_answers > 2 || f->starttls > 2 || f->handshake > 2 || f->certificates_given > 1)
+        || !is_between(f->address, TWEEDSTORK_NO_ALIAS_SECURE, TWEEDSTORK_ADDRESS_ABSENT) || !is_yes_no(f->policy_given) || f->tlsa_answers > 2 || f->starttls > 2 || f->handshake > 2
+        || (f->tls_version > VERSION_LIMIT && f->handshake == TWEEDSTORK_ESTABLISHED) || f->certificates_given > 1)
         return 0;
     for (size_t i = 0; i < f->tlsa_answers; i++)
         if (!is_between(f->tlsa[i].result, TWEEDSTORK_TLSA_SECURE, TWEEDSTORK_TLSA_LOOKUP_FAILED))
@@ -937,6 +938,8 @@ static struct tweedstork_host_answer judge_tls(const struct facts *f, const stru
         return answer(needs_tls ? TWEEDSTORK_HANDSHAKE_FAILED : TWEEDSTORK_CLEARTEXT, w->questions);
     if (!needs_check)
         return answer(TWEEDSTORK_ENCRYPTED, w->questions);
+    if (f->tls_version < TWEEDSTORK_TLS_1_2)
+        return answer(TWEEDSTORK_OLD_TLS, w->questions);
     if (f->certificates_given == 0)
         return answer(TWEEDSTORK_ASK_CERTIFICATES, w->questions);
     return judge_certificates(f, w, host);
@@ -1009,6 +1012,7 @@ struct tweedstork_host_answer plain_judge_host(
     const uint8_t *tlsa2_records, size_t tlsa2_records_length,
     uint64_t starttls,
     uint64_t handshake,
+    uint64_t tls_version,
     uint64_t certificates_given,
     const uint8_t *certificates, size_t certificates_length,
     const uint8_t *certificate_lengths, size_t certificate_lengths_length,
@@ -1027,7 +1031,7 @@ struct tweedstork_host_answer plain_judge_host(
         policy_given, {policy, policy_length}, fetched, tlsa_answers,
         {{tlsa1_result, {tlsa1_lengths, tlsa1_lengths_length}, {tlsa1_records, tlsa1_records_length}},
          {tlsa2_result, {tlsa2_lengths, tlsa2_lengths_length}, {tlsa2_records, tlsa2_records_length}}},
-        starttls, handshake, certificates_given,
+        starttls, handshake, tls_version, certificates_given,
         {{certificates, certificates_length}, {certificate_lengths, certificate_lengths_length}, {key_places, key_places_length},
          {digests, digests_length}, {paths, paths_length}, trusted_root, {dns_ids, dns_ids_length},
          {dns_id_lengths, dns_id_lengths_length}, common_name_given, {common_name, common_name_length}}};
@@ -1041,7 +1045,7 @@ enum { HOSTS_LIMIT = 32, PREFERENCE_LIMIT = 65535 };
 
 static int is_next_host(uint32_t verdict)
 {
-    return verdict >= TWEEDSTORK_ADDRESS_FAILED && verdict <= TWEEDSTORK_MTA_STS_MISMATCH;
+    return verdict >= TWEEDSTORK_ADDRESS_FAILED && verdict <= TWEEDSTORK_OLD_TLS;
 }
 
 static int is_delivery(uint32_t verdict)

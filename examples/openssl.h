@@ -1,10 +1,10 @@
 /*
- * From an OpenSSL connection to the certificate facts that the library asks for. Made to be copied into a relay; it is C, and
- * needs OpenSSL 3: cc -c openssl.c $(pkg-config --cflags tweedstork openssl). What a relay does, with the facts that it has of the
- * host, when the library answers
+ * From an OpenSSL connection to the facts of its handshake and certificates that the library asks for. Made to be copied into a
+ * relay; it is C, and needs OpenSSL 3: cc -c openssl.c $(pkg-config --cflags tweedstork openssl). What a relay does, with the
+ * facts that it has of the host, when the library answers
  *
  *   TWEEDSTORK_ASK_HANDSHAKE      if (!handshake_prepare(ssl, &host)) leave the host out;
- *                                 host.handshake = SSL_connect(ssl) == 1 ? TWEEDSTORK_ESTABLISHED : TWEEDSTORK_NOT_ESTABLISHED;
+ *                                 handshake_give(ssl, SSL_connect(ssl), &host);
  *   TWEEDSTORK_ASK_CERTIFICATES   if (!certificate_facts_read(ssl, roots, &host, &facts)) leave the host out;
  *                                 certificate_facts_give(&facts, &host);
  *
@@ -41,10 +41,18 @@ struct certificate_facts {
 
 /*
  * Sets up a connection: the server name to send, the ciphers to offer, no checks of certificates during the handshake, no resumed
- * session; and where certificates don't matter, old TLS too. Returns 0 where that fails. That is a failure of the relay's own,
- * never to be given as TWEEDSTORK_NOT_ESTABLISHED, which may be answered with cleartext: the relay leaves the host out for now.
+ * session; and where certificates don't matter, old TLS too. Where they do, the lowest version of TLS is what the relay's context
+ * has: one below TLS 1.2 is answered with TWEEDSTORK_OLD_TLS. Returns 0 where it can't be set up. That is a failure of the relay's
+ * own, never to be given as TWEEDSTORK_NOT_ESTABLISHED, which may be answered with cleartext: the relay leaves the host out for
+ * now.
  */
 int handshake_prepare(SSL *ssl, const struct tweedstork_host_facts *host);
+
+/*
+ * Gives the host's facts the outcome of the handshake, and of an established one the version of TLS that was agreed on.
+ * connected: what SSL_connect returned at last. Only after a 1 is there a version: before, SSL_version has one not agreed on.
+ */
+void handshake_give(const SSL *ssl, int connected, struct tweedstork_host_facts *host);
 
 /*
  * Reads the facts of a connection whose handshake is finished.

@@ -183,6 +183,21 @@ static void say_handshake(const struct tweedstork_host_facts *facts)
            tweedstork_certificates_matter(facts) ? "no" : "yes");
 }
 
+/*
+ * The handshake's outcome, and of an established one the version of TLS that was agreed on. It is asked of the TLS library after the
+ * handshake: the highest version that the relay offers, in its place, would let old TLS pass.
+ */
+static void learn_handshake(const struct scenario_host *host, struct tweedstork_host_facts *facts)
+{
+    facts->handshake = host->handshake;
+    if (host->handshake != TWEEDSTORK_ESTABLISHED) {
+        printf("  network: failed\n");
+        return;
+    }
+    facts->tls_version = host->tls_version;
+    printf("  network: established, TLS 1.%" PRIu64 "\n", host->tls_version - TWEEDSTORK_TLS_1_0);
+}
+
 /* TLS: what the server showed, and what the relay's TLS library says of it. */
 static void learn_certificates(const struct scenario_host *host, struct tweedstork_host_facts *facts)
 {
@@ -217,8 +232,7 @@ static int learn(uint64_t question, const struct scenario_host *host, struct twe
         return 1;
     case TWEEDSTORK_ASK_HANDSHAKE:
         say_handshake(facts);
-        facts->handshake = host->handshake;
-        printf("  network: %s\n", host->handshake == TWEEDSTORK_ESTABLISHED ? "established" : "failed");
+        learn_handshake(host, facts);
         return 1;
     case TWEEDSTORK_ASK_CERTIFICATES:
         learn_certificates(host, facts);
@@ -357,7 +371,7 @@ static int deliver(const struct scenario_message *m, const struct policy *policy
             printf("relay: returns the message, since its next-hop is no name\n");
             return 1;
         }
-        if (tried > TWEEDSTORK_MTA_STS_MISMATCH && !is_theirs(tried)) {
+        if (tried > TWEEDSTORK_OLD_TLS && !is_theirs(tried)) { /* above the last of a host's verdicts */
             printf("relay: keeps the message, since it made a mistake of its own\n");
             return 0;
         }

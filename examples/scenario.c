@@ -32,7 +32,8 @@ static const struct choice tlsa_results[] = {
 
 static const struct choice starttls_offers[] = {{"offered", TWEEDSTORK_STARTTLS_OFFERED}, {"not-offered", TWEEDSTORK_STARTTLS_NOT_OFFERED}, {NULL, 0}};
 
-static const struct choice handshakes[] = {{"established", TWEEDSTORK_ESTABLISHED}, {"failed", TWEEDSTORK_NOT_ESTABLISHED}, {NULL, 0}};
+static const struct choice tls_versions[] = {
+    {"1.0", TWEEDSTORK_TLS_1_0}, {"1.1", TWEEDSTORK_TLS_1_1}, {"1.2", TWEEDSTORK_TLS_1_2}, {"1.3", TWEEDSTORK_TLS_1_3}, {NULL, 0}};
 
 static int choose(const char *word, const struct choice *choices, uint64_t *code)
 {
@@ -210,6 +211,17 @@ static int read_message_line(struct scenario_message *m, char **words, size_t co
     return 0;
 }
 
+/* handshake established TLS VERSION, or handshake failed: only an established one has a version. */
+static int read_handshake(struct scenario_host *host, char **words, size_t count)
+{
+    if (count == 4 && strcmp(words[1], "established") == 0 && strcmp(words[2], "TLS") == 0) {
+        host->handshake = TWEEDSTORK_ESTABLISHED;
+        return choose(words[3], tls_versions, &host->tls_version);
+    }
+    host->handshake = TWEEDSTORK_NOT_ESTABLISHED;
+    return count == 2 && strcmp(words[1], "failed") == 0;
+}
+
 /* A line on the host last named; `tlsa` is its TLSA answer last named. */
 static int read_host_line(struct scenario_host *host, struct scenario_tlsa **tlsa, char **words, size_t count)
 {
@@ -221,6 +233,8 @@ static int read_host_line(struct scenario_host *host, struct scenario_tlsa **tls
         return add_certificate(host, words[1], words[2]);
     if (count == 5 && strcmp(keyword, "record") == 0)
         return add_record(*tlsa, words);
+    if (strcmp(keyword, "handshake") == 0)
+        return read_handshake(host, words, count);
     if (count != 2)
         return 0;
     if (strcmp(keyword, "tlsa") == 0 || strcmp(keyword, "tlsa-expanded") == 0) {
@@ -235,8 +249,6 @@ static int read_host_line(struct scenario_host *host, struct scenario_tlsa **tls
     }
     if (strcmp(keyword, "starttls") == 0)
         return choose(words[1], starttls_offers, &host->starttls);
-    if (strcmp(keyword, "handshake") == 0)
-        return choose(words[1], handshakes, &host->handshake);
     if (strcmp(keyword, "trusted-root") == 0)
         return choose(words[1], yes_no, &host->trusted_root);
     if (strcmp(keyword, "dns-id") == 0)

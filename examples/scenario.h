@@ -30,7 +30,7 @@ struct scenario_tlsa {
 struct scenario_host {
     uint32_t preference;
     struct scenario_bytes name, expanded;
-    uint64_t address, starttls, handshake;
+    uint64_t address, starttls, handshake, tls_version;
     int lost; /* the connection is lost before EHLO is answered */
     struct scenario_tlsa at_expanded, at_host;
     struct scenario_parts certificates, dns_ids;

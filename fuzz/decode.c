@@ -29,6 +29,21 @@ uint64_t take_number(struct text *rest)
     return number;
 }
 
+static int hexadecimal(uint8_t byte)
+{
+    if (byte >= '0' && byte <= '9')
+        return byte - '0';
+    return byte >= 'a' && byte <= 'f' ? byte - 'a' + 10 : -1;
+}
+
+uint64_t take_hexadecimal(struct text *rest)
+{
+    uint64_t number = 0;
+    while (rest->left > 0 && hexadecimal(*rest->at) >= 0)
+        number = number * 16 + (uint64_t)hexadecimal(take_byte(rest));
+    return number;
+}
+
 uint64_t code_of(uint8_t byte)
 {
     if (byte >= '0' && byte <= '9')
@@ -109,13 +124,6 @@ static void put_long_name(struct bytes *to, uint64_t size)
 {
     for (uint64_t left = size; left > 0; left--)
         put(to, left % 2 == 1 || left == size ? 'a' : '.');
-}
-
-static int hexadecimal(uint8_t byte)
-{
-    if (byte >= '0' && byte <= '9')
-        return byte - '0';
-    return byte >= 'a' && byte <= 'f' ? byte - 'a' + 10 : -1;
 }
 
 /* `first` came after a dollar and is no letter of expand. */

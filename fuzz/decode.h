@@ -41,6 +41,9 @@ uint64_t take_number(struct text *rest);
 /* The same for a size. Large ones cost time, so they count only near a limit of the rules; others are taken modulo 600. */
 uint64_t take_size(struct text *rest);
 
+/* The hexadecimal digits that come next (small letters), as a number. */
+uint64_t take_hexadecimal(struct text *rest);
+
 /* The number of a code: a digit is itself, a letter stands for a number that is no code, and any other byte for 0 to 3. */
 uint64_t code_of(uint8_t byte);
 

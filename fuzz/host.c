@@ -4,6 +4,7 @@
  *       tlsa2_result, starttls, handshake, certificates_given, trusted_root, common_name_given
  *   k   the clock
  *   f   fetched: a number, or c+N or c-N, counted from the clock
+ *   v   tls_version, in hexadecimal digits
  *   n, a, h, x   next_hop, expanded_next_hop, host, expanded
  *   1, 2      the records of the two TLSA answers, each ended by a space: usage, selector, matching type (a digit is itself),
  *       then the data: a digit is what that certificate has for selector and type (after ^ for the other selector), ! changes
@@ -14,7 +15,7 @@
  *   m   the common name
  *   e   changes to the slices (decode.h): a next_hop to q common_name, in the header's order
  *   p   the policy: all that is left of the input
- * A line of another form stands for nothing. Lines c, k, n, a, h and x have defaults (in decode).
+ * A line of another form stands for nothing. Lines c, k, v, n, a, h and x have defaults (in decode).
  * The digests are no real ones: the rules only compare them.
  */
 #include "target.h"
@@ -31,15 +32,15 @@ static const char *const slices[] = {
     "common_name", NULL};
 enum {
     CLOCK, EXPANDED_NEXT_HOP_GIVEN, ORIGIN, ADDRESS, POLICY_GIVEN, FETCHED, TLSA_ANSWERS, TLSA1_RESULT, TLSA2_RESULT, STARTTLS,
-    HANDSHAKE, CERTIFICATES_GIVEN, TRUSTED_ROOT, COMMON_NAME_GIVEN
+    HANDSHAKE, TLS_VERSION, CERTIFICATES_GIVEN, TRUSTED_ROOT, COMMON_NAME_GIVEN
 };
 static const char *const numbers[] = {
     "clock", "expanded_next_hop_given", "origin", "address", "policy_given", "fetched", "tlsa_answers", "tlsa1_result",
-    "tlsa2_result", "starttls", "handshake", "certificates_given", "trusted_root", "common_name_given", NULL};
+    "tlsa2_result", "starttls", "handshake", "tls_version", "certificates_given", "trusted_root", "common_name_given", NULL};
 static const char *const outputs[] = {NULL};
 static const char *const fields[] = {"number", "tlsa_questions", NULL};
 static const uint8_t answers[] = {1,  2,  3,  4,  5,  10, 11, 12, 13, 14, 20, 21, 22, 23, 24, 25, 26,
-                                  27, 50, 52, 53, 54, 55, 56, 57, 60, 61, 62, 64, 65, 66, 67, 0};
+                                  27, 28, 50, 52, 53, 54, 55, 56, 57, 60, 61, 62, 64, 65, 66, 67, 0};
 
 enum { DIGEST_BYTES = 192 }; /* SHA-256 and SHA-512 of the certificate, then of its key info */
 
@@ -207,6 +208,7 @@ static void decode(struct text input, struct call *call)
     struct text lines['z' + 1] = {{NULL, 0}};
     lines['c'] = text_of("212200011122");
     lines['k'] = text_of("1700000000");
+    lines['v'] = text_of("0303");
     lines['n'] = text_of("example.com");
     lines['a'] = text_of("shops.example.org");
     lines['h'] = text_of("mail.example.com");
@@ -215,6 +217,7 @@ static void decode(struct text input, struct call *call)
     take_codes(lines['c'], call);
     call->numbers[CLOCK] = moment(lines['k'], 0);
     call->numbers[FETCHED] = moment(lines['f'], call->numbers[CLOCK]);
+    call->numbers[TLS_VERSION] = take_hexadecimal(&lines['v']);
     expand(lines['n'], &call->slices[NEXT_HOP], 0, call->slices);
     expand(lines['a'], &call->slices[EXPANDED_NEXT_HOP], 0, call->slices);
     expand(lines['h'], &call->slices[HOST], 0, call->slices);
@@ -237,7 +240,7 @@ static void ask(int independent, const struct call *call, uint64_t *answer)
         n[ORIGIN], LENT(call, HOST), n[ADDRESS], LENT(call, EXPANDED), n[POLICY_GIVEN], LENT(call, POLICY), n[FETCHED], n[TLSA_ANSWERS],
         n[TLSA1_RESULT], LENT(call, TLSA1_LENGTHS), LENT(call, TLSA1_RECORDS),
         n[TLSA2_RESULT], LENT(call, TLSA2_LENGTHS), LENT(call, TLSA2_RECORDS),
-        n[STARTTLS], n[HANDSHAKE], n[CERTIFICATES_GIVEN],
+        n[STARTTLS], n[HANDSHAKE], n[TLS_VERSION], n[CERTIFICATES_GIVEN],
         LENT(call, CERTIFICATES), LENT(call, CERTIFICATE_LENGTHS), LENT(call, KEY_PLACES), LENT(call, DIGESTS), LENT(call, PATHS),
         n[TRUSTED_ROOT], LENT(call, DNS_IDS), LENT(call, DNS_ID_LENGTHS), n[COMMON_NAME_GIVEN], LENT(call, COMMON_NAME));
     answer[0] = a.number;

@@ -1,7 +1,7 @@
 /*
  * How inputs are changed. The fuzzer's own changes mostly break what a line says; since inputs are lines of text full of
- * digits (codes, sizes, records, preferences), half of the changes are of a digit, a line, an item or the length of a word, and
- * an input may take a line from another that has it too.
+ * digits (codes, sizes, versions, records, preferences), half of the changes are of a digit, a line, an item or the length of a
+ * word, and an input may take a line from another that has it too.
  */
 #include "decode.h"
 

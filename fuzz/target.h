@@ -10,7 +10,7 @@
 #include "decode.h"
 #include "independent.h"
 
-enum { MOST_SLICES = 17, MOST_NUMBERS = 14, MOST_FIELDS = 10 };
+enum { MOST_SLICES = 17, MOST_NUMBERS = 15, MOST_FIELDS = 10 };
 
 /* The arguments: the numbers and the slices, each in the order of the header. */
 struct call {

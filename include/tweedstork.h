@@ -21,6 +21,8 @@
  *   certificate is 27 (RFC 8461, 2 only forbids that a policy rescues a failing DANE check; Postfix lets DANE decide alone);
  * - insecure MX records don't switch DANE off (RFC 7672, 2.2.1 leaves the choice); 3 then proves the host, not that it is the
  *   domain's;
+ * - where authentication is needed, TLS below version 1.2 is not enough (28), whatever certificate is shown (RFC 7672 sets no
+ *   lowest version; RFC 8461, 7.2 asks that TLS 1.2 or higher is supported, and doesn't forbid older ones);
  * - a policy is stale at exactly max_age (RFC 8461, 5.1 keeps it while its age "has not exceeded" max_age);
  * - a TLSA record under 3 bytes counts as a failed lookup (22), and not as an unusable record;
  * - usage 2 never matches the leaf, self-signed or not (as long as the relay gives no path to a copy of it);
@@ -54,8 +56,8 @@ extern "C" {
 #endif
 
 /* The version of this header. A number that another version gave a meaning to is never given a second one. */
-#define TWEEDSTORK_VERSION "1.5.0"
-#define TWEEDSTORK_VERSION_NUMBER 10500 /* major * 10000 + minor * 100 + patch */
+#define TWEEDSTORK_VERSION "1.6.0"
+#define TWEEDSTORK_VERSION_NUMBER 10600 /* major * 10000 + minor * 100 + patch */
 
 /* The version of the archive. It equals TWEEDSTORK_VERSION_NUMBER where header and archive belong together. */
 uint64_t tweedstork_version(void);
@@ -76,7 +78,7 @@ enum tweedstork_number {
     TWEEDSTORK_NOT_TRIED = 9,               /* host not tried yet (input only) */
     /* a host: what to learn next */
     TWEEDSTORK_ASK_STARTTLS = 10,           /* ask: is STARTTLS offered? */
-    TWEEDSTORK_ASK_HANDSHAKE = 11,          /* ask: was the handshake established? */
+    TWEEDSTORK_ASK_HANDSHAKE = 11,          /* ask: was the handshake established, and with which version of TLS? */
     TWEEDSTORK_ASK_CERTIFICATES = 12,       /* ask: which certificates were shown? */
     TWEEDSTORK_ASK_TLSA_EXPANDED = 13,      /* ask: which TLSA records are there at the expanded name (for port 25 at
                                                _25._tcp.NAME)? */
@@ -93,6 +95,7 @@ enum tweedstork_number {
     TWEEDSTORK_HANDSHAKE_FAILED = 25,       /* next host: TLS needed, handshake failed */
     TWEEDSTORK_DANE_MISMATCH = 26,          /* next host: DANE did not match */
     TWEEDSTORK_MTA_STS_MISMATCH = 27,       /* next host: MTA-STS certificate check did not pass */
+    TWEEDSTORK_OLD_TLS = 28,                /* next host: authentication needed, TLS below version 1.2 */
     /* a message's hosts: delay */
     TWEEDSTORK_MX_LOOKUP_FAILED = 30,       /* delay: MX lookup failed */
     TWEEDSTORK_NO_HOST_LEFT = 31,           /* delay: every host is a 'next host' */
@@ -129,7 +132,8 @@ enum tweedstork_number {
                                                big-endian) that do not sum, or a key place outside its certificate */
     TWEEDSTORK_FACT_MISSING = 66,           /* refused: a later fact is given while an earlier needed one is missing */
     TWEEDSTORK_BAD_CODE = 67,               /* refused: a code, a mode or a yes/no number (each of the paths too) outside its
-                                               choices, perhaps left zero, or over two TLSA answers */
+                                               choices, perhaps left zero, over two TLSA answers, or a TLS version over
+                                               65,535 */
     TWEEDSTORK_CACHE_FULL = 70,             /* refused: no entry of the cache is the domain's own, empty or stale */
     TWEEDSTORK_CACHE_TEXT_LONG = 71,        /* refused: the policy has over 1,024 bytes, which is the room of a cache's entry */
     TWEEDSTORK_CACHE_NOT_FOUND = 72,        /* refused: the cache holds no live policy for the domain */
@@ -157,7 +161,7 @@ static inline const char *tweedstork_answer_words(uint64_t number)
     case TWEEDSTORK_TRY_HOST: return "try this host";
     case TWEEDSTORK_NOT_TRIED: return "host not tried yet (input only)";
     case TWEEDSTORK_ASK_STARTTLS: return "ask: is STARTTLS offered?";
-    case TWEEDSTORK_ASK_HANDSHAKE: return "ask: was the handshake established?";
+    case TWEEDSTORK_ASK_HANDSHAKE: return "ask: was the handshake established, and with which version of TLS?";
     case TWEEDSTORK_ASK_CERTIFICATES: return "ask: which certificates were shown?";
     case TWEEDSTORK_ASK_TLSA_EXPANDED:
         return "ask: which TLSA records are there at the expanded name (for port 25 at _25._tcp.NAME)?";
@@ -171,6 +175,7 @@ static inline const char *tweedstork_answer_words(uint64_t number)
     case TWEEDSTORK_HANDSHAKE_FAILED: return "next host: TLS needed, handshake failed";
     case TWEEDSTORK_DANE_MISMATCH: return "next host: DANE did not match";
     case TWEEDSTORK_MTA_STS_MISMATCH: return "next host: MTA-STS certificate check did not pass";
+    case TWEEDSTORK_OLD_TLS: return "next host: authentication needed, TLS below version 1.2";
     case TWEEDSTORK_MX_LOOKUP_FAILED: return "delay: MX lookup failed";
     case TWEEDSTORK_NO_HOST_LEFT: return "delay: every host is a 'next host'";
     case TWEEDSTORK_TXT_NO_CANDIDATE: return "refused: no TXT record begins with 'v=STSv1;'";
@@ -209,7 +214,7 @@ static inline const char *tweedstork_answer_words(uint64_t number)
     case TWEEDSTORK_FACT_MISSING: return "refused: a later fact is given while an earlier needed one is missing";
     case TWEEDSTORK_BAD_CODE:
         return "refused: a code, a mode or a yes/no number (each of the paths too) outside its choices, perhaps left zero, "
-               "or over two TLSA answers";
+               "over two TLSA answers, or a TLS version over 65,535";
     case TWEEDSTORK_CACHE_FULL: return "refused: no entry of the cache is the domain's own, empty or stale";
     case TWEEDSTORK_CACHE_TEXT_LONG:
         return "refused: the policy has over 1,024 bytes, which is the room of a cache's entry";
@@ -269,6 +274,22 @@ enum tweedstork_starttls {
 };
 
 enum tweedstork_handshake { TWEEDSTORK_HANDSHAKE_NOT_GIVEN = 0, TWEEDSTORK_ESTABLISHED = 1, TWEEDSTORK_NOT_ESTABLISHED = 2 };
+
+/*
+ * The version of TLS that the handshake agreed on: its two wire bytes as one number, the high byte first. Any other number up to
+ * 65,535 may be given too; SSL 3.0 is 0x0300. Give what was agreed on, not the highest version that the relay offered, by which old
+ * TLS would pass; nor what the records carry, which is 0x0303 with TLS 1.3 too.
+ *
+ * OpenSSL's SSL_version returns these numbers, but only once SSL_connect has returned 1: before that it is a higher version, that
+ * nobody agreed on. GnuTLS's gnutls_protocol_get_version has numbers of its own (GNUTLS_TLS1_2 is 4), which the relay has to
+ * translate.
+ */
+enum tweedstork_tls_version {
+    TWEEDSTORK_TLS_1_0 = 0x0301,
+    TWEEDSTORK_TLS_1_1 = 0x0302,
+    TWEEDSTORK_TLS_1_2 = 0x0303,            /* the lowest that will do where authentication is needed */
+    TWEEDSTORK_TLS_1_3 = 0x0304
+};
 
 enum tweedstork_certificates_given { TWEEDSTORK_CERTIFICATES_NOT_GIVEN = 0, TWEEDSTORK_CERTIFICATES_GIVEN = 1 };
 
@@ -476,7 +497,9 @@ struct tweedstork_host_answer {
  *            that is TWEEDSTORK_TLSA_SECURE, its records: their RDATAs one after another, and a list of their lengths (up to 32
  *            records of up to 4,096 bytes);
  *          - starttls (enum tweedstork_starttls);
- *          - handshake (enum tweedstork_handshake);
+ *          - handshake (enum tweedstork_handshake), and where it is TWEEDSTORK_ESTABLISHED tls_version, the version of TLS
+ *            that it agreed on (enum tweedstork_tls_version, or any other number up to 65,535). Left zero it is an old
+ *            version: 28 wherever authentication is needed. With any other handshake it is not looked at;
  *          - certificates_given (enum tweedstork_certificates_given), and with it the following. Where the server showed no
  *            certificate they are given all the same, with empty lists, and TWEEDSTORK_NO as trusted_root and
  *            common_name_given;
@@ -492,9 +515,14 @@ struct tweedstork_host_answer {
  *          - common_name_given (yes/no); common_name (up to 255 bytes).
  *
  *          What isn't supplied is not looked at, whatever bytes stand there.
- * Answers: a verdict (1 to 5: deliver; 20 to 27: next host), exactly when every way in which the missing facts could turn
+ * Answers: a verdict (1 to 5: deliver; 20 to 28: next host), exactly when every way in which the missing facts could turn
  *          out leads to it; otherwise the question (10 to 14) of the first fact that the rules reach and that is not given.
  *          tlsa_questions is how many of the given TLSA answers the rules read, 0 to 2 (for logs: no decision needs it).
+ *
+ *          28 where authentication is needed (the TLSA records have a usable one, or an enforce policy is live) and the
+ *          handshake agreed on a version below TLS 1.2. No certificate can change that, so none is asked for: 26 and 27 come
+ *          from TLS 1.2 on. Where no authentication is needed every version gives 2, also where there are TLSA records and
+ *          none of them is usable.
  *
  *          Refusals, in this order: TWEEDSTORK_BAD_CODE, TWEEDSTORK_BAD_CLOCK, TWEEDSTORK_BAD_NEXT_HOP, TWEEDSTORK_BAD_HOST,
  *          those of tweedstork_read_policy, TWEEDSTORK_BAD_TLSA, TWEEDSTORK_BAD_CERTIFICATES, and last TWEEDSTORK_FACT_MISSING.
@@ -536,6 +564,7 @@ struct tweedstork_host_answer tweedstork_judge_host(
     const uint8_t *tlsa2_records, size_t tlsa2_records_length,
     uint64_t starttls,
     uint64_t handshake,
+    uint64_t tls_version,
     uint64_t certificates_given,
     const uint8_t *certificates, size_t certificates_length,
     const uint8_t *certificate_lengths, size_t certificate_lengths_length,
@@ -565,8 +594,8 @@ struct tweedstork_message_answer {
  * Takes:   mx_lookup: TWEEDSTORK_MX_ANSWERED or TWEEDSTORK_MX_FAILED.
  *          preferences: list of numbers, 1 to 32 of them, each 0 to 65,535, a host each. Of more hosts the relay gives the 32
  *          that come first by preference.
- *          verdicts: list of numbers, one for each host: TWEEDSTORK_NOT_TRIED, or the verdict that it got (1 to 5, 20 to 27).
- * Answers: hosts are taken by preference, lower first, equal ones as given. The first that is no "next host" (20 to 27)
+ *          verdicts: list of numbers, one for each host: TWEEDSTORK_NOT_TRIED, or the verdict that it got (1 to 5, 20 to 28).
+ * Answers: hosts are taken by preference, lower first, equal ones as given. The first that is no "next host" (20 to 28)
  *          decides: one not tried yet gives TWEEDSTORK_TRY_HOST and its position, a verdict 1 to 5 is handed on with its
  *          position. Positions count from 0 in the lists as given. TWEEDSTORK_NO_HOST_LEFT where every host is a "next
  *          host", TWEEDSTORK_MX_LOOKUP_FAILED where the lookup failed (the lists are then not looked at); position 0 then.
@@ -678,12 +707,14 @@ struct tweedstork_tlsa_answer {
  * The arguments of tweedstork_judge_host by name. A new struct for each host, all zero: TLSA answers left over from another host
  * would count as this one's. A fact that isn't learnt yet stays zero; zero is never "no", so a question that comes twice running
  * means that its fact was left zero. Never zero are expanded_next_hop_given, origin, address and policy_given (67); nor, once
- * certificates are given, trusted_root and common_name_given (67).
+ * certificates are given, trusted_root and common_name_given (67); nor, once the handshake is established, tls_version (28 where
+ * authentication is needed).
  *
  * No call can refuse these: with a policy fetched is never zero (the policy would be stale), a secure TLSA answer has all its
- * records (without them it is the same as absent), clock is never zero (every policy would stay live), and expanded_next_hop is
- * from the secure MX answer (any other name would be one that the certificate may have). The first two can end in delivery in
- * cleartext, the last in delivery to somebody else's server.
+ * records (without them it is the same as absent), clock is never zero (every policy would stay live), tls_version is what the
+ * handshake agreed on (the highest version offered would let old TLS pass), and expanded_next_hop is from the secure MX answer
+ * (any other name would be one that the certificate may have). The first two can end in delivery in cleartext, the last in
+ * delivery to somebody else's server.
  */
 struct tweedstork_host_facts {
     uint64_t clock;
@@ -701,6 +732,7 @@ struct tweedstork_host_facts {
     struct tweedstork_tlsa_answer tlsa[2];
     uint64_t starttls;                      /* enum tweedstork_starttls */
     uint64_t handshake;                     /* enum tweedstork_handshake */
+    uint64_t tls_version;                   /* enum tweedstork_tls_version: with an established handshake never left zero */
     uint64_t certificates_given;            /* enum tweedstork_certificates_given */
     struct tweedstork_slice certificates, certificate_lengths, key_places, digests, paths;
     uint64_t trusted_root;                  /* TWEEDSTORK_YES or TWEEDSTORK_NO */
@@ -736,6 +768,7 @@ static inline struct tweedstork_host_answer tweedstork_judge_facts(const struct 
         facts->tlsa[1].records.bytes, facts->tlsa[1].records.length,
         facts->starttls,
         facts->handshake,
+        facts->tls_version,
         facts->certificates_given,
         facts->certificates.bytes, facts->certificates.length,
         facts->certificate_lengths.bytes, facts->certificate_lengths.length,
@@ -754,10 +787,15 @@ static inline struct tweedstork_host_answer tweedstork_judge_facts(const struct 
  * offer anonymous ciphers (RFC 7672, 8.2) and need not keep the certificates; with 1 it offers none, since a server that has a
  * certificate may still choose such a cipher, and then shows none (26 or 27).
  *
- * 1 where tweedstork_judge_host would ask for certificate facts (12) were the handshake established; and where a TLSA answer is
- * not learnt yet, since its records may need them. 0 where the verdict is the same whatever the server shows; and where facts
- * are refused, since no verdict comes of them at all: see first that tweedstork_judge_facts refuses nothing. What the facts say of
- * STARTTLS, handshake and certificates is not read.
+ * The lowest version of TLS to offer hangs on it too. With 0 an old one is fine: whatever version is agreed on, the verdict is the
+ * same, and a handshake that fails may end in cleartext (1). With 1, once every TLSA answer is learnt that the library asked for,
+ * TLS 1.2 as the lowest loses no delivery, since an older version is 28. A server that has only older ones then fails the
+ * handshake, and is 25.
+ *
+ * 1 where tweedstork_judge_host would ask for certificate facts (12) were the handshake established at TLS 1.2 or above; and where
+ * a TLSA answer is not learnt yet, since its records may need them. 0 where the verdict is the same whatever the server shows; and
+ * where facts are refused, since no verdict comes of them at all: see first that tweedstork_judge_facts refuses nothing. What the
+ * facts say of STARTTLS, handshake, version of TLS and certificates is not read.
  */
 static inline int tweedstork_certificates_matter(const struct tweedstork_host_facts *facts)
 {
@@ -766,6 +804,7 @@ static inline int tweedstork_certificates_matter(const struct tweedstork_host_fa
 
     established.starttls = TWEEDSTORK_STARTTLS_OFFERED;
     established.handshake = TWEEDSTORK_ESTABLISHED;
+    established.tls_version = TWEEDSTORK_TLS_1_2;
     established.certificates_given = TWEEDSTORK_CERTIFICATES_NOT_GIVEN;
     answer = tweedstork_judge_facts(&established).number;
     return answer == TWEEDSTORK_ASK_CERTIFICATES || answer == TWEEDSTORK_FACT_MISSING;

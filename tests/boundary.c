@@ -70,6 +70,20 @@ static void message_hosts(void)
     next_host("the largest number is no code", UINT64_MAX, list_of(NULL, 0, 0), list_of(NULL, 0, 0), TWEEDSTORK_BAD_CODE, 0);
 }
 
+/* Which numbers a host's verdict may be: 9, 1 to 5, or a "next host", 20 to 28 (documents 01 and 02, No. 6). */
+static void host_verdicts(void)
+{
+    static const uint32_t preferences[2] = {10, 20};
+    for (uint32_t number = 0; number <= 100; number++) {
+        int is_delivery = number >= 1 && number <= 5, is_next_host = number >= 20 && number <= 28, is_verdict = is_delivery || is_next_host || number == 9;
+        uint32_t verdicts[2] = {number, TWEEDSTORK_NOT_TRIED};
+        char name[40];
+        snprintf(name, sizeof name, "%u in a list of verdicts", (unsigned)number);
+        next_host(name, TWEEDSTORK_MX_ANSWERED, list_of(preferences, 1, 0), list_of(verdicts, 1, 0), is_delivery ? number : is_next_host ? 31 : is_verdict ? 8 : 63, 0);
+        next_host(name, TWEEDSTORK_MX_ANSWERED, list_of(preferences, 2, 0), list_of(verdicts, 2, 0), is_delivery ? number : is_verdict ? 8 : 63, is_next_host);
+    }
+}
+
 /* Asks with an output of just its size, and sees what is in it afterwards. */
 static void read_txt(const char *name, const char *rdatas, size_t rdatas_length, struct list lengths, const char *before, uint64_t number, uint64_t start, uint64_t length, const char *after)
 {
@@ -186,7 +200,7 @@ static struct tweedstork_host_answer judge(uint64_t clock, const char *host, uin
     memcpy(name, host, length);
     return tweedstork_judge_host(
         clock, name, length, TWEEDSTORK_NO, NULL, 0, TWEEDSTORK_NO_MX, name, length, address, NULL, 0, TWEEDSTORK_NO_POLICY, NULL, 0, UINT64_MAX,
-        0, UINT64_MAX, NULL, 0, NULL, 0, UINT64_MAX, NULL, 0, NULL, 0, starttls, TWEEDSTORK_HANDSHAKE_NOT_GIVEN, certificates_given,
+        0, UINT64_MAX, NULL, 0, NULL, 0, UINT64_MAX, NULL, 0, NULL, 0, starttls, TWEEDSTORK_HANDSHAKE_NOT_GIVEN, UINT64_MAX, certificates_given,
         NULL, 0, NULL, 0, NULL, 0, NULL, 0, NULL, 0, TWEEDSTORK_NO, NULL, 0, NULL, 0, TWEEDSTORK_NO, NULL, 0);
 }
 
@@ -256,10 +270,14 @@ static struct tweedstork_host_facts known_with(uint64_t address, const char *pol
     return facts;
 }
 
-/* Do certificates matter, whatever else is given of the handshake? A server that shows none fails just where they do. */
+/*
+ * Do certificates matter, whatever else is given of the handshake? A server that shows none fails just where they do; so does one
+ * with old TLS, whatever it shows.
+ */
 static void matters(const char *name, struct tweedstork_host_facts facts, int wanted)
 {
-    uint64_t shows_none;
+    static const uint64_t versions[] = {0, TWEEDSTORK_TLS_1_1, TWEEDSTORK_TLS_1_2, TWEEDSTORK_TLS_1_3, 65536, UINT64_MAX};
+    uint64_t shows_none, is_old;
 
     expect(name, tweedstork_certificates_matter(&facts) == wanted);
     facts.starttls = TWEEDSTORK_STARTTLS_NOT_OFFERED;
@@ -270,8 +288,16 @@ static void matters(const char *name, struct tweedstork_host_facts facts, int wa
     facts.handshake = TWEEDSTORK_ESTABLISHED;
     facts.certificates_given = TWEEDSTORK_CERTIFICATES_GIVEN;
     facts.trusted_root = facts.common_name_given = TWEEDSTORK_NO;
+    for (size_t i = 0; i < sizeof versions / sizeof versions[0]; i++) {
+        facts.tls_version = versions[i];
+        expect(name, tweedstork_certificates_matter(&facts) == wanted);
+    }
+    facts.tls_version = TWEEDSTORK_TLS_1_2;
     shows_none = tweedstork_judge_facts(&facts).number;
     expect(name, wanted == (shows_none == TWEEDSTORK_DANE_MISMATCH || shows_none == TWEEDSTORK_MTA_STS_MISMATCH || shows_none == TWEEDSTORK_FACT_MISSING));
+    facts.tls_version = TWEEDSTORK_TLS_1_1;
+    is_old = tweedstork_judge_facts(&facts).number;
+    expect(name, wanted == (is_old == TWEEDSTORK_OLD_TLS || is_old == TWEEDSTORK_FACT_MISSING));
 }
 
 /* A policy is refused as tweedstork_read_policy refuses it. */
@@ -332,6 +358,7 @@ static struct tweedstork_host_facts aliased(const char *dns_id)
     facts.host = text("mx10.example.com");
     facts.starttls = TWEEDSTORK_STARTTLS_OFFERED;
     facts.handshake = TWEEDSTORK_ESTABLISHED;
+    facts.tls_version = TWEEDSTORK_TLS_1_2;
     facts.certificates_given = TWEEDSTORK_CERTIFICATES_GIVEN;
     facts.certificates = lists[0];
     facts.certificate_lengths = lists[1];
@@ -395,6 +422,112 @@ static void refused_expanded_next_hops(void)
     for (size_t i = 0; i < sizeof codes / sizeof codes[0]; i++) {
         facts.expanded_next_hop_given = codes[i];
         judged("expanded next-hop neither given nor none", tweedstork_judge_facts(&facts), TWEEDSTORK_BAD_CODE, 0);
+    }
+}
+
+/*
+ * An established handshake with these certificate facts, and with none given: the answers from TLS 1.2 on. Every older version is 28
+ * with both; but where no authentication is needed, the version changes nothing.
+ */
+static void versions(const char *name, struct tweedstork_host_facts facts, uint64_t with, uint64_t without, uint64_t questions)
+{
+    static const uint64_t old[] = {0, 1, 3, 0x0203, 0x02ff, 0x0300, TWEEDSTORK_TLS_1_0, TWEEDSTORK_TLS_1_1};
+    static const uint64_t new[] = {TWEEDSTORK_TLS_1_2, TWEEDSTORK_TLS_1_3, 0x0305, 0x0400, 65535};
+    uint64_t below = with == TWEEDSTORK_ENCRYPTED ? TWEEDSTORK_ENCRYPTED : TWEEDSTORK_OLD_TLS;
+
+    facts.starttls = TWEEDSTORK_STARTTLS_OFFERED;
+    facts.handshake = TWEEDSTORK_ESTABLISHED;
+    for (uint64_t given = 0; given <= 1; given++) {
+        facts.certificates_given = given;
+        for (size_t i = 0; i < sizeof old / sizeof old[0]; i++) {
+            facts.tls_version = old[i];
+            judged(name, tweedstork_judge_facts(&facts), below, questions);
+        }
+        for (size_t i = 0; i < sizeof new / sizeof new[0]; i++) {
+            facts.tls_version = new[i];
+            judged(name, tweedstork_judge_facts(&facts), given ? with : without, questions);
+        }
+    }
+}
+
+/* Document 02, No. 6: where authentication is needed, a version below 03 03 hex is 28, before 26. */
+static void old_tls(void)
+{
+    static const char enforce[] = "version: STSv1\nmode: enforce\nmx: *.example.com\nmax_age: 604800\n";
+    static const char unusable[35] = {1, 1, 1};
+    uint8_t length[4];
+    struct tweedstork_host_facts record, both, policy;
+
+    versions("DANE that doesn't match", aliased("mail.example.org"), TWEEDSTORK_DANE_MISMATCH, TWEEDSTORK_ASK_CERTIFICATES, 1);
+    record = both = aliased("mx10.example.com");
+    versions("DANE", record, TWEEDSTORK_DANE, TWEEDSTORK_ASK_CERTIFICATES, 1);
+    both.policy_given = TWEEDSTORK_POLICY;
+    both.policy = text(enforce);
+    versions("DANE and MTA-STS, no trusted root", both, TWEEDSTORK_MTA_STS_MISMATCH, TWEEDSTORK_ASK_CERTIFICATES, 1);
+    both.trusted_root = TWEEDSTORK_YES;
+    versions("DANE and MTA-STS", both, TWEEDSTORK_DANE_AND_MTA_STS, TWEEDSTORK_ASK_CERTIFICATES, 1);
+    policy = both;
+    policy.address = TWEEDSTORK_NO_ALIAS_INSECURE;
+    versions("MTA-STS", policy, TWEEDSTORK_MTA_STS, TWEEDSTORK_ASK_CERTIFICATES, 0);
+    policy.trusted_root = TWEEDSTORK_NO;
+    versions("MTA-STS that doesn't pass", policy, TWEEDSTORK_MTA_STS_MISMATCH, TWEEDSTORK_ASK_CERTIFICATES, 0);
+    policy.clock = policy.fetched + 604800;
+    versions("stale policy", policy, TWEEDSTORK_ENCRYPTED, TWEEDSTORK_ENCRYPTED, 0);
+    policy.policy_given = TWEEDSTORK_NO_POLICY;
+    versions("nothing needed", policy, TWEEDSTORK_ENCRYPTED, TWEEDSTORK_ENCRYPTED, 0);
+    record.tlsa_answers = both.tlsa_answers = 0;
+    learn_tlsa(&record, TWEEDSTORK_TLSA_SECURE, unusable, 35, length);
+    versions("TLS needed", record, TWEEDSTORK_ENCRYPTED, TWEEDSTORK_ENCRYPTED, 1);
+    learn_tlsa(&both, TWEEDSTORK_TLSA_SECURE, unusable, 35, length);
+    versions("TLS needed, live policy", both, TWEEDSTORK_MTA_STS, TWEEDSTORK_ASK_CERTIFICATES, 1);
+}
+
+/* What is refused beside an old version, and which facts it doesn't stand in for. */
+static void refused_beside_old_tls(void)
+{
+    struct tweedstork_host_facts facts = aliased("mx10.example.com");
+
+    facts.tls_version = TWEEDSTORK_TLS_1_1;
+    facts.key_places.length = 8;
+    judged("old TLS, certificate facts of the wrong length", tweedstork_judge_facts(&facts), TWEEDSTORK_BAD_CERTIFICATES, 0);
+    facts.trusted_root = 0;
+    judged("old TLS, trusted root neither yes nor no", tweedstork_judge_facts(&facts), TWEEDSTORK_BAD_CODE, 0);
+    facts.certificates_given = TWEEDSTORK_CERTIFICATES_NOT_GIVEN;
+    judged("old TLS, certificate facts not given", tweedstork_judge_facts(&facts), TWEEDSTORK_OLD_TLS, 1);
+    facts.starttls = TWEEDSTORK_STARTTLS_NOT_GIVEN;
+    judged("old TLS, STARTTLS not given", tweedstork_judge_facts(&facts), TWEEDSTORK_FACT_MISSING, 0);
+    facts.starttls = TWEEDSTORK_STARTTLS_NOT_OFFERED;
+    judged("old TLS beside not offered", tweedstork_judge_facts(&facts), TWEEDSTORK_TLS_NOT_OFFERED, 1);
+    facts.starttls = TWEEDSTORK_STARTTLS_OFFERED;
+    facts.tlsa_answers = 0;
+    judged("old TLS, no TLSA answer learnt yet", tweedstork_judge_facts(&facts), TWEEDSTORK_FACT_MISSING, 0);
+    facts.address = TWEEDSTORK_ADDRESS_ABSENT;
+    judged("old TLS, no address", tweedstork_judge_facts(&facts), TWEEDSTORK_NO_ADDRESS, 0);
+}
+
+/* A version of over two bytes is refused first of all, whatever is needed; without an established handshake it is not looked at. */
+static void refused_versions(void)
+{
+    static const uint64_t refused[] = {65536, 65536 + TWEEDSTORK_TLS_1_2, (uint64_t)1 << 32 | TWEEDSTORK_TLS_1_3, UINT64_MAX};
+    struct tweedstork_host_facts record = aliased("mx10.example.com"), nothing = known(TWEEDSTORK_NO_ALIAS_INSECURE, NULL);
+
+    for (size_t i = 0; i < sizeof refused / sizeof refused[0]; i++) {
+        struct tweedstork_host_facts facts[2] = {record, nothing};
+        for (size_t k = 0; k < 2; k++) {
+            facts[k].tls_version = refused[i];
+            facts[k].certificates_given = TWEEDSTORK_CERTIFICATES_NOT_GIVEN;
+            facts[k].handshake = TWEEDSTORK_ESTABLISHED;
+            for (facts[k].starttls = 0; facts[k].starttls <= TWEEDSTORK_STARTTLS_NOT_OFFERED; facts[k].starttls++)
+                judged("a version of over two bytes", tweedstork_judge_facts(&facts[k]), TWEEDSTORK_BAD_CODE, 0);
+            facts[k].clock = UINT64_MAX;
+            judged("a version of over two bytes, and a bad clock", tweedstork_judge_facts(&facts[k]), TWEEDSTORK_BAD_CODE, 0);
+            facts[k].clock = 605799;
+            facts[k].starttls = TWEEDSTORK_STARTTLS_OFFERED;
+            facts[k].handshake = TWEEDSTORK_HANDSHAKE_NOT_GIVEN;
+            judged("a version without a handshake", tweedstork_judge_facts(&facts[k]), TWEEDSTORK_ASK_HANDSHAKE, k == 0);
+            facts[k].handshake = TWEEDSTORK_NOT_ESTABLISHED;
+            judged("a version after a failed handshake", tweedstork_judge_facts(&facts[k]), k == 0 ? TWEEDSTORK_HANDSHAKE_FAILED : TWEEDSTORK_CLEARTEXT, k == 0);
+        }
     }
 }
 
@@ -484,9 +617,13 @@ int main(void)
     host_policies();
     expanded_next_hops();
     refused_expanded_next_hops();
+    old_tls();
+    refused_beside_old_tls();
+    refused_versions();
     certificates_matter();
     server_names();
     message_hosts();
+    host_verdicts();
     printf("boundary: %u passed, %u failed\n", passed, failed);
     return failed == 0 ? 0 : 1;
 }

@@ -25,11 +25,11 @@ struct tweedstork_host_answer tweedstork_judge_host(
     size_t policy_length, uint64_t fetched, uint64_t tlsa_answers, uint64_t tlsa1_result, const uint8_t *tlsa1_lengths,
     size_t tlsa1_lengths_length, const uint8_t *tlsa1_records, size_t tlsa1_records_length, uint64_t tlsa2_result,
     const uint8_t *tlsa2_lengths, size_t tlsa2_lengths_length, const uint8_t *tlsa2_records, size_t tlsa2_records_length,
-    uint64_t starttls, uint64_t handshake, uint64_t certificates_given, const uint8_t *certificates, size_t certificates_length,
-    const uint8_t *certificate_lengths, size_t certificate_lengths_length, const uint8_t *key_places, size_t key_places_length,
-    const uint8_t *digests, size_t digests_length, const uint8_t *paths, size_t paths_length, uint64_t trusted_root,
-    const uint8_t *dns_ids, size_t dns_ids_length, const uint8_t *dns_id_lengths, size_t dns_id_lengths_length,
-    uint64_t common_name_given, const uint8_t *common_name, size_t common_name_length)
+    uint64_t starttls, uint64_t handshake, uint64_t tls_version, uint64_t certificates_given, const uint8_t *certificates,
+    size_t certificates_length, const uint8_t *certificate_lengths, size_t certificate_lengths_length, const uint8_t *key_places,
+    size_t key_places_length, const uint8_t *digests, size_t digests_length, const uint8_t *paths, size_t paths_length,
+    uint64_t trusted_root, const uint8_t *dns_ids, size_t dns_ids_length, const uint8_t *dns_id_lengths,
+    size_t dns_id_lengths_length, uint64_t common_name_given, const uint8_t *common_name, size_t common_name_length)
 {
     noted.clock = clock;
     noted.next_hop = slice(next_hop, next_hop_length);
@@ -51,6 +51,7 @@ struct tweedstork_host_answer tweedstork_judge_host(
     noted.tlsa[1].records = slice(tlsa2_records, tlsa2_records_length);
     noted.starttls = starttls;
     noted.handshake = handshake;
+    noted.tls_version = tls_version;
     noted.certificates_given = certificates_given;
     noted.certificates = slice(certificates, certificates_length);
     noted.certificate_lengths = slice(certificate_lengths, certificate_lengths_length);
@@ -82,7 +83,7 @@ static void each_field_arrives(void)
     struct tweedstork_host_facts facts = facts_of_their_own();
     struct tweedstork_host_answer answer;
 
-    expect("no field is padded or of another size", sizeof facts == 8 * (14 + 2 * 17));
+    expect("no field is padded or of another size", sizeof facts == 8 * (15 + 2 * 17));
     memset(&noted, 0, sizeof noted);
     answered.number = 12345;
     answered.tlsa_questions = 67890;
@@ -94,7 +95,10 @@ static void each_field_arrives(void)
     expect("nothing given is all zero", memcmp(&noted, &facts, sizeof facts) == 0);
 }
 
-/* Certificates matter where the library would ask for them (12), or for a TLSA answer before (66, since a handshake is given). */
+/*
+ * Certificates matter where the library would ask for them (12), or for a TLSA answer before (66, since a handshake is given). It is
+ * asked at TLS 1.2, the lowest version at which they can decide (document 02, No. 6).
+ */
 static void certificates_matter(void)
 {
     const struct tweedstork_host_facts before = facts_of_their_own();
@@ -102,6 +106,7 @@ static void certificates_matter(void)
 
     wanted.starttls = 1;
     wanted.handshake = 1;
+    wanted.tls_version = 0x0303;
     wanted.certificates_given = 0;
     answered.tlsa_questions = 12;
     for (uint64_t number = 0; number <= 100; number++) {
@@ -110,7 +115,7 @@ static void certificates_matter(void)
         memset(&noted, 0, sizeof noted);
         answered.number = number;
         expect(name, tweedstork_certificates_matter(&facts) == (number == 12 || number == 66));
-        expect("it asks with STARTTLS offered, TLS established, no certificates, all else as it is", memcmp(&noted, &wanted, sizeof noted) == 0);
+        expect("it asks with STARTTLS offered, TLS 1.2 established, no certificates, all else as it is", memcmp(&noted, &wanted, sizeof noted) == 0);
         expect("the caller's facts are as they were", memcmp(&facts, &before, sizeof facts) == 0);
     }
     answered.number = ((uint64_t)1 << 32) + 12;
@@ -120,7 +125,7 @@ static void certificates_matter(void)
 /* The server name of these facts is the expanded name exactly where DANE is checked there: the library asks for certificates (12) without a policy. */
 static void server_name(const char *test, const struct tweedstork_host_facts *facts, int may_be_expanded)
 {
-    static const uint64_t answers[] = {12, 2, 22, 26, 61, 64};
+    static const uint64_t answers[] = {12, 2, 22, 26, 28, 61, 64};
 
     for (size_t i = 0; i < sizeof answers / sizeof answers[0]; i++) {
         struct tweedstork_slice name, wanted = may_be_expanded && answers[i] == 12 ? facts->expanded : facts->host;
@@ -185,6 +190,15 @@ static void server_names(void)
     }
 }
 
+/* The versions of TLS as their two wire bytes, the high byte first. */
+static void versions(void)
+{
+    expect("TLS 1.0", TWEEDSTORK_TLS_1_0 == 0x0301);
+    expect("TLS 1.1", TWEEDSTORK_TLS_1_1 == 0x0302);
+    expect("TLS 1.2", TWEEDSTORK_TLS_1_2 == 0x0303);
+    expect("TLS 1.3", TWEEDSTORK_TLS_1_3 == 0x0304);
+}
+
 static void numbers_are_written_high_first(void)
 {
     static const uint8_t wanted[13] = {0xee, 0xee, 0xee, 0xee, 0x01, 0x02, 0x03, 0x04, 0, 0, 1, 0, 0xee};
@@ -202,7 +216,7 @@ static void numbers_are_written_high_first(void)
  */
 static void each_number_has_words(void)
 {
-    static const uint64_t ranges[][2] = {{1, 15}, {20, 27}, {30, 31}, {40, 44}, {50, 50}, {52, 57}, {60, 67}, {70, 72}, {74, 74}, {80, 83}};
+    static const uint64_t ranges[][2] = {{1, 15}, {20, 28}, {30, 31}, {40, 44}, {50, 50}, {52, 57}, {60, 67}, {70, 72}, {74, 74}, {80, 83}};
     const char *none = tweedstork_answer_words(0);
     unsigned with_words = 0;
 
@@ -219,11 +233,13 @@ static void each_number_has_words(void)
         with_words += (unsigned)in_table;
         if (in_table && (number >= 40) != (strncmp(words, "refused: ", 9) == 0))
             expect("exactly the words of 40 and above begin with 'refused'", 0);
+        if (in_table && (number >= 20 && number <= 28) != (strncmp(words, "next host: ", 11) == 0))
+            expect("exactly the words of 20 to 28 begin with 'next host'", 0);
         for (uint64_t other = 1; in_table && other < number; other++)
             if (strcmp(words, tweedstork_answer_words(other)) == 0)
                 expect("no two numbers have the same words", 0);
     }
-    expect("53 numbers have words", with_words == 53);
+    expect("54 numbers have words", with_words == 54);
     expect("the largest number has none", strcmp(tweedstork_answer_words(UINT64_MAX), none) == 0);
 }
 
@@ -232,6 +248,7 @@ int main(void)
     each_field_arrives();
     certificates_matter();
     server_names();
+    versions();
     numbers_are_written_high_first();
     each_number_has_words();
     printf("conveniences: %u passed, %u failed\n", passed, failed);

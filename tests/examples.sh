@@ -59,6 +59,7 @@ scenario cleartext '8 10 1 1'
 scenario mx-failed '30'
 scenario connection-lost '8 10 8 10 11 2 2'
 scenario aliased-domain '8 14 10 11 12 26 8 14 10 11 12 3 3'
+scenario old-tls '8 14 10 11 28 8 14 10 11 12 3 3 8 10 11 2 2'
 scenario cached-policy '72 6 7 15 8 10 11 12 4 4 15 6 8 10 11 12 4 4'
 scenario policy-renewed '72 6 7 15 8 10 11 12 4 4 15 6 7 15 8 10 11 12 4 4 15 6 8 10 11 12 4 4'
 scenario policy-fetch-failed '72 6 7 15 8 10 11 12 4 4 15 6 8 10 24 31'
@@ -97,6 +98,42 @@ answers '8 60 60' "$files/alias"
 expect 'relay: returns the message, since its next-hop is no name' relay "$files/alias"
 aliased 's/dns-id mail.example.net/dns-id exchange.example.org/'
 answers '8 14 10 11 12 3 3' "$files/alias"
+# Document 02, No. 6: where authentication is needed, TLS below 1.2 is 28, before certificates are asked for; elsewhere any will do.
+handshake() { # handshake OUTCOME SCENARIO [SED-EDIT]: the scenario with this outcome of each handshake, into $files/handshake
+    sed -e "s/^    handshake .*/    handshake $1/" -e "${3-}" "examples/scenarios/$2.txt" >"$files/handshake"
+}
+shakes() { # shakes OUTCOME NUMBERS SCENARIO [SED-EDIT]
+    handshake "$1" "$3" "${4-}"
+    answers "$2" "$files/handshake"
+}
+for version in 1.0 1.1; do
+    shakes "established TLS $version" '8 14 10 11 28 31' dane
+    expect 'relay: keeps the message and tries again later' relay "$files/handshake"
+    shakes "established TLS $version" '8 10 11 28 31' mta-sts
+    shakes "established TLS $version" '8 14 10 11 28 31' both
+    shakes "established TLS $version" '8 13 10 11 28 31' wrong-key
+    shakes "established TLS $version" '8 10 11 28 8 23 31' wrong-certificate
+    shakes "established TLS $version" '8 14 22 31' tlsa-failed
+    shakes "established TLS $version" '8 10 11 2 2' stale-policy
+    shakes "established TLS $version" '8 14 10 11 2 2' dane 's/record 3 1 1/record 1 1 1/' # unusable: TLS is needed, and no more
+    expect 'relay: sends the message to mail.example.com, over TLS, whoever the server is' relay "$files/handshake"
+done
+for version in 1.2 1.3; do
+    shakes "established TLS $version" '8 14 10 11 12 3 3' dane
+    shakes "established TLS $version" '8 10 11 12 4 4' mta-sts
+    shakes "established TLS $version" '8 14 10 11 12 5 5' both
+    shakes "established TLS $version" '8 13 10 11 12 26 31' wrong-key
+    shakes "established TLS $version" '8 10 11 12 27 8 23 31' wrong-certificate
+    shakes "established TLS $version" '8 14 10 11 12 3 3 8 10 11 2 2' old-tls
+done
+shakes failed '8 14 10 11 25 31' dane
+shakes failed '8 10 11 25 31' mta-sts
+shakes failed '8 10 11 1 1' stale-policy
+expect 'relay: sends the message to mail.example.net, over TLS, whoever the server is' relay examples/scenarios/old-tls.txt
+for words in '' established 'established TLS' 'established TLS 1.4' 'established TLS 0304' 'established SSL 1.3' 'established 1.3' 'established TLS 1.2 1.3' 'failed TLS 1.2'; do
+    handshake "$words" stale-policy
+    expect "$files/handshake, line 16: not understood" relay "$files/handshake"
+done
 expect 'relay: sends the message to backup.example.com, over TLS, whoever the server is' relay examples/scenarios/connection-lost.txt
 printf 'clock 1\nnext-hop example.com\nmx insecure\nhost 10 mail.example.com\naddress insecure\nconnection lost\n' >"$files/lost"
 expect 'relay: keeps the message and tries again later' relay "$files/lost"

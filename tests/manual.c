@@ -20,10 +20,10 @@ void leave_out(void);
 void try_host(const char *domain);
 extern struct tweedstork_cache cache; /* the example's own */
 
-static uint64_t tlsa, starttls, handshake; /* what the network answers */
-static uint64_t lost_at;                   /* the question at which the connection is lost; 0: at none */
-static int certificate_matches, forgetful; /* forgetful: the answer about STARTTLS is lost on its way into the facts */
-static int learnt;                         /* how often the example asked */
+static uint64_t tlsa, starttls, handshake, version; /* what the network answers; the version of TLS, or 0: it is forgotten */
+static uint64_t lost_at;                            /* the question at which the connection is lost; 0: at none */
+static int certificate_matches, forgetful;          /* forgetful: the answer about STARTTLS is lost on its way into the facts */
+static int learnt;                                  /* how often the example asked */
 static char outcome[64];
 
 static int learns(uint64_t question)
@@ -60,6 +60,7 @@ int ask_for_starttls(struct tweedstork_host_facts *facts)
 int shake_hands(struct tweedstork_host_facts *facts)
 {
     facts->handshake = handshake;
+    facts->tls_version = version;
     return learns(TWEEDSTORK_ASK_HANDSHAKE);
 }
 
@@ -144,8 +145,26 @@ static void under_a_policy(void)
     starttls = TWEEDSTORK_STARTTLS_OFFERED;
     expect("go on 27", "example.com");
     expect("deliver 2", "example.net");
+    version = TWEEDSTORK_TLS_1_0;
+    expect("go on 28", "example.com");
+    expect("deliver 2", "example.net");
     cache.table[0].fetched = 1; /* stale */
     expect("deliver 2", "example.com");
+}
+
+/* A server whose key the TLSA record names, with each version of TLS. */
+static void versions(void)
+{
+    for (version = TWEEDSTORK_TLS_1_0; version < TWEEDSTORK_TLS_1_2; version++)
+        expect("go on 28", "example.com");
+    version = 0;
+    expect("go on 28", "example.com");
+    for (version = TWEEDSTORK_TLS_1_3; version >= TWEEDSTORK_TLS_1_2; version--)
+        expect("deliver 3", "example.com");
+    version = TWEEDSTORK_TLS_1_2;
+    handshake = TWEEDSTORK_NOT_ESTABLISHED;
+    expect("go on 25", "example.com");
+    handshake = TWEEDSTORK_ESTABLISHED;
 }
 
 int main(void)
@@ -154,7 +173,7 @@ int main(void)
     starttls = TWEEDSTORK_STARTTLS_OFFERED;
     handshake = TWEEDSTORK_ESTABLISHED;
     certificate_matches = 1;
-    expect("deliver 3", "example.com");
+    versions();
     certificate_matches = 0;
     expect("go on 26", "example.com");
     expect("leave out", "example..com");

@@ -1,9 +1,9 @@
 -- Arguments that the call accepts: every check passes, and the values of the facts keep the limits. Assumes nothing.
 use Prim.Native.Nat.{ℕ, _+_, _*_, _<_, _≤_}
 use mathlib.Core.Path.{_≡_, refl, sym, _∙_, ap, subst}
-use mathlib.Core.Bool.{Bool, true, false, not, cond, _&&_, _||_}
+use mathlib.Core.Bool.{Bool, true, false, not, cond, _&&_, _||_, and-false}
 use mathlib.Core.List.{List, [], _∷_}
-use mathlib.Core.Option.{some}
+use mathlib.Core.Option.{none, some}
 use native.Mathlib.Omega.{arith}
 use lib.Dec.{T, eqb, leb}
 use lib.ListN.{length, getD, take, drop}
@@ -26,12 +26,12 @@ use Rattle.certificates.specs.Facts.{certificateAt, certificatesOf, when, commo
 use Rattle.certificates.specs.Limits.{chainKeepsLimits, keepsLimits, oneForEach, chainFits, namesFit, factsFit}
 use Rattle.certificates.proofs.Written.{nameOf, facts-limits}
 use Rattle.hosts.specs.declared.HostAnswer.{HostAnswer}
-use Rattle.hosts.specs.Facts.{tlsa, first, second, starttls, handshake, certificates, given}
-use Rattle.hosts.specs.Arguments.{Arguments, originOf, addressOf, isAlias, lookupOf, baseOf, presentedIn, factsOf}
+use Rattle.hosts.specs.Facts.{Handshake, established, failed, tlsa, first, second, starttls, handshake, certificates, given}
+use Rattle.hosts.specs.Arguments.{Arguments, originOf, addressOf, isAlias, lookupOf, outcomeOf, baseOf, presentedIn, factsOf}
 use Rattle.hosts.specs.Call.{ifSupplied, codesFit, clocksFit, nextHopsFit, hostFits, hostNamesFit, policyFits, answersFit, certificatesFit, checks, refused, checked, walked, hostAnswer}
 use Rattle.hosts.specs.Demands.{isRefusal, IsPassed}
 use Rattle.hosts.proofs.Trees.{GivenOk}
-use Rattle.hosts.proofs.Values.{OkAnswer, sized, okCertificate, OkPresented, Ok}
+use Rattle.hosts.proofs.Values.{OkAnswer, sized, okCertificate, OkPresented, OkHandshake, Ok}
 use Rattle.hosts.proofs.TwoVerdicts.{OkName}
 
 -- every check passes
@@ -139,12 +139,12 @@ pub slice-bytes : (a : Arguments) → IsPassed a → (i : ℕ) → i < 17 → is
 slice-bytes a h i k = all-at isBytes [] (slices a) i k (holds (all isBytes (slices a)) (h .slices))
 
 abbrev pub numbersIn : Arguments → List ℕ
-numbersIn a = a .numbers .clock ∷ a .numbers .«expanded_next_hop_given» ∷ a .numbers .origin ∷ a .numbers .address ∷ a .numbers .«policy_given» ∷ a .numbers .fetched ∷ a .numbers .«tlsa_answers» ∷ a .numbers .«tlsa1_result» ∷ a .numbers .«tlsa2_result» ∷ a .numbers .starttls ∷ a .numbers .handshake ∷ a .numbers .«certificates_given» ∷ a .numbers .«trusted_root» ∷ a .numbers .«common_name_given» ∷ []
+numbersIn a = a .numbers .clock ∷ a .numbers .«expanded_next_hop_given» ∷ a .numbers .origin ∷ a .numbers .address ∷ a .numbers .«policy_given» ∷ a .numbers .fetched ∷ a .numbers .«tlsa_answers» ∷ a .numbers .«tlsa1_result» ∷ a .numbers .«tlsa2_result» ∷ a .numbers .starttls ∷ a .numbers .handshake ∷ a .numbers .«tls_version» ∷ a .numbers .«certificates_given» ∷ a .numbers .«trusted_root» ∷ a .numbers .«common_name_given» ∷ []
 
 abbrev pub isNumber : ℕ → Bool
 isNumber n = leb n 18446744073709551615
 
-pub number-fits : (a : Arguments) → IsPassed a → (i : ℕ) → i < 14 → isNumber (getD (numbersIn a) i 0) ≡ true
+pub number-fits : (a : Arguments) → IsPassed a → (i : ℕ) → i < 15 → isNumber (getD (numbersIn a) i 0) ≡ true
 number-fits a h i k = all-at isNumber 0 (numbersIn a) i k (holds (all isNumber (numbersIn a)) (h .numbers))
 
 -- TLSA answers
@@ -204,6 +204,11 @@ supplied : (s t : Bool) → ifSupplied s t ≡ true → s ≡ true → t ≡ tru
 supplied true t h e = h
 supplied false t h e = apart e
 
+-- a version of over two bytes is no code
+pub bad-version : (a : Arguments) → ifSupplied (eqb (a .numbers .handshake) 1) (leb (a .numbers .«tls_version») 65535) ≡ false → codesFit a ≡ false
+unfolding codesFit
+bad-version a e = simp (e, and-false)
+
 module _ (a : Arguments) (passed : IsPassed a) (p : Passes a) where
   first-ok : leb 1 (a .numbers .«tlsa_answers») ≡ true → OkAnswer (answerOf (lookupOf (a .numbers .«tlsa1_result»)) (a .lengths1) (a .records1))
   unfolding answersFit
@@ -220,13 +225,29 @@ module _ (a : Arguments) (passed : IsPassed a) (p : Passes a) where
       (supplied (eqb (a .numbers .«certificates_given») 1) _ (p .facts) e)
       (slice-bytes a passed 9 (omega arith)) (slice-bytes a passed 12 (omega arith)) (slice-bytes a passed 14 (omega arith)) (slice-bytes a passed 16 (omega arith))
 
+  -- the version of an established handshake has two bytes
+  version-fits : ifSupplied (eqb (a .numbers .handshake) 1) (leb (a .numbers .«tls_version») 65535) ≡ true
+  version-fits = go (ifSupplied (eqb (a .numbers .handshake) 1) (leb (a .numbers .«tls_version») 65535)) refl
+    where
+      go : (t : Bool) → ifSupplied (eqb (a .numbers .handshake) 1) (leb (a .numbers .«tls_version») 65535) ≡ t → t ≡ true
+      go true e = refl
+      go false e = apart (sym (bad-version a e) ∙ p .codes)
+
+  outcome-ok : (m : Handshake) → outcomeOf (a .numbers .handshake) (a .numbers .«tls_version») ≡ some m → OkHandshake m
+  outcome-ok m e = go (eqb (a .numbers .handshake) 0) (eqb (a .numbers .handshake) 1) version-fits e
+    where
+      go : (x y : Bool) → ifSupplied y (leb (a .numbers .«tls_version») 65535) ≡ true → cond x none (some (cond y (established (a .numbers .«tls_version»)) failed)) ≡ some m → OkHandshake m
+      go true y h k = never cc
+      go false true h k = let z : established (a .numbers .«tls_version») ≡ m = cc in subst OkHandshake z h
+      go false false h k = let z : failed ≡ m = cc in subst OkHandshake z tt
+
   -- the facts given keep the limits
   pub given-ok : GivenOk Ok (factsOf a)
   unfolding factsOf
   given-ok (tlsa first) v e = given-when OkAnswer (leb 1 (a .numbers .«tlsa_answers»)) (answerOf (lookupOf (a .numbers .«tlsa1_result»)) (a .lengths1) (a .records1)) v first-ok e
   given-ok (tlsa second) v e = given-when OkAnswer (leb 2 (a .numbers .«tlsa_answers»)) (answerOf (lookupOf (a .numbers .«tlsa2_result»)) (a .lengths2) (a .records2)) v second-ok e
   given-ok starttls v e = tt
-  given-ok handshake v e = tt
+  given-ok handshake v e = outcome-ok v e
   given-ok certificates v e = given-when OkPresented (eqb (a .numbers .«certificates_given») 1) (presentedIn a) v presented-ok e
 
   -- the host and, under an alias, the expanded name are names

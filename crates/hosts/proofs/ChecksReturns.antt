@@ -22,7 +22,7 @@ use Rattle.hosts.specs.Arguments.{Arguments, originOf, addressOf, isAlia
 use Rattle.hosts.specs.Call.{ifSupplied, hostFits, codesFit, clocksFit, nextHopsFit, hostNamesFit, answersFit, certificatesFit}
 use Rattle.hosts.specs.Stages.{baseCodesFit, laterCodesFit, certificateCodesFit, firstPart, lastPart, firstRefusal, lastRefusal}
 
--- what is supplied is tested, what is not passes: `result_fits`, `answer_fits`, `certificates_fit`
+-- what is supplied is tested, what is not passes: `result_fits`, `version_fits`, `answer_fits`, `certificates_fit`
 pub supplied-is : (s t r : Bool) → s ≡ true → r ≡ t → r ≡ ifSupplied s t
 supplied-is s t r h e = cc
 
@@ -63,7 +63,7 @@ module _ (n : Numbers) (x : Bool) (xe : x ≡ within 1 2 (n .«expanded_next_hop
 
 pub ruleset base-laws = (base-expanded, base-origin, base-address, base-policy, base-answers, not-true, not-false, needs)
 
--- `later_codes_fit`: f, s are what its calls gave
+-- `later_codes_fit`: f, s, v are what its calls gave
 module _ (n : Numbers) (f : Bool) (fe : f ≡ ifSupplied (leb 1 (n .«tlsa_answers»)) (within 1 4 (n .«tlsa1_result»))) where
   pub later-first : f ≡ false → false ≡ laterCodesFit n
   unfolding laterCodesFit
@@ -84,11 +84,16 @@ module _ (n : Numbers) (f : Bool) (fe : f ≡ ifSupplied (leb 1 (n .«tlsa_answe
         unfolding laterCodesFit
         later-handshake h = cc (le-leb (n .starttls) 2 o, lt-leb (n .handshake) 2 h)
 
-        pub later-certificates : n .handshake ≤ 2 → leb (n .«certificates_given») 1 ≡ laterCodesFit n
-        unfolding laterCodesFit
-        later-certificates h = cc (le-leb (n .starttls) 2 o, le-leb (n .handshake) 2 h)
+        module _ (h : n .handshake ≤ 2) (v : Bool) (ve : v ≡ ifSupplied (eqb (n .handshake) 1) (leb (n .«tls_version») 65535)) where
+          pub later-version : v ≡ false → false ≡ laterCodesFit n
+          unfolding laterCodesFit
+          later-version t = cc (le-leb (n .starttls) 2 o, le-leb (n .handshake) 2 h)
 
-pub ruleset later-laws = (later-first, later-second, later-starttls, later-handshake, later-certificates, not-true, not-false, needs)
+          pub later-certificates : v ≡ true → leb (n .«certificates_given») 1 ≡ laterCodesFit n
+          unfolding laterCodesFit
+          later-certificates t = cc (le-leb (n .starttls) 2 o, le-leb (n .handshake) 2 h)
+
+pub ruleset later-laws = (later-first, later-second, later-starttls, later-handshake, later-version, later-certificates, not-true, not-false, needs)
 
 -- `certificate_codes_fit`: a, t, r are what its calls gave
 module _ (n : Numbers) (Q : List ℕ) where

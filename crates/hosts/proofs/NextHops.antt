@@ -24,7 +24,7 @@ use Rattle.certificates.proofs.References.{secure-without, insecure-with-any, n
 use Rattle.hosts.specs.declared.HostAnswer.{HostAnswer}
 use Rattle.hosts.specs.Facts.{Base, Handshake, established, failed, Place, first, second, Fact, Value, tlsa, starttls, handshake, certificates, Facts, given, later}
 use Rattle.hosts.specs.Tree.{Rules, verdict, ask, Outcome, final, missing, onGiven, walk, isTlsa, answersRead}
-use Rattle.hosts.specs.Rules.{needsMtaSts, isListed, mtaStsPasses, Taken, nothing, set, needsDane, needsAnything, takenPasses, lastVerdict, authenticate, afterHandshake, connect, afterAnswer, seek, start, rules}
+use Rattle.hosts.specs.Rules.{isOld, needsMtaSts, isListed, mtaStsPasses, Taken, nothing, set, needsDane, needsAnything, takenPasses, lastVerdict, authenticate, afterHandshake, connect, afterAnswer, seek, start, rules}
 use Rattle.hosts.specs.Arguments.{Arguments, originOf, baseOf, presentedIn, factsOf}
 use Rattle.hosts.specs.Call.{codesFit, clocksFit, nextHopsFit, hostNamesFit, policyFits, answersFit, certificatesFit, checks, refused, outcomeAnswer, walked, hostAnswer}
 use Rattle.hosts.proofs.Accepted.{policy-refusal}
@@ -155,13 +155,16 @@ module _ (b : Base) (hop x y : List ℕ) (dane : ByEither (b .origin) hop x y) (
   either-passed : (s : Taken) (p : Presented) (d e y : Bool) → Either (verdict (lastVerdict d e (takenPasses withThird s p) y)) (verdict (lastVerdict d e (takenPasses withoutThird s p) y)) (verdict (lastVerdict d e (takenPasses withOther s p) y))
   either-passed s p d e y = rw (taken-either s p) (last-either d e (takenPasses withoutThird s p) (takenPasses withOther s p) y)
 
-  either-authenticate : (s : Taken) → Either (authenticate withThird s) (authenticate withoutThird s) (authenticate withOther s)
+  either-authenticate : (s : Taken) (version : ℕ) → Either (authenticate withThird s version) (authenticate withoutThird s version) (authenticate withOther s version)
   unfolding needsMtaSts mtaStsPasses isListed
-  either-authenticate s = either-cond (needsDane s || needsMtaSts b) _ _ _ _ _ _ (either-ask 12 refl certificates _ _ _ (λ p. either-passed s p (needsDane s) (needsMtaSts b) (mtaStsPasses b p))) (either-verdict 2)
+  either-authenticate s version =
+      either-cond (needsDane s || needsMtaSts b) _ _ _ _ _ _
+      (either-cond (isOld version) _ _ _ _ _ _ (either-verdict 28) (either-ask 12 refl certificates _ _ _ (λ p. either-passed s p (needsDane s) (needsMtaSts b) (mtaStsPasses b p))))
+      (either-verdict 2)
 
   either-handshake : (s : Taken) (h : Handshake) → Either (afterHandshake withThird s h) (afterHandshake withoutThird s h) (afterHandshake withOther s h)
   unfolding needsMtaSts
-  either-handshake s established = either-authenticate s
+  either-handshake s (established version) = either-authenticate s version
   either-handshake s failed = either-verdict _
 
   either-connect : (s : Taken) → Either (connect withThird s) (connect withoutThird s) (connect withOther s)
@@ -224,6 +227,7 @@ withExpanded given name a = record {
     «tlsa2_result» = a .numbers .«tlsa2_result»;
     starttls = a .numbers .starttls;
     handshake = a .numbers .handshake;
+    «tls_version» = a .numbers .«tls_version»;
     «certificates_given» = a .numbers .«certificates_given»;
     «trusted_root» = a .numbers .«trusted_root»;
     «common_name_given» = a .numbers .«common_name_given»;

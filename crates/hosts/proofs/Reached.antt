@@ -13,11 +13,12 @@ use Rattle.certificates.specs.Facts.{Presented}
 use Rattle.hosts.specs.Facts.{Base, Handshake, Place, first, second, Fact, tlsa, starttls, handshake, certificates, Full}
 use Rattle.hosts.specs.Facts as F
 use Rattle.hosts.specs.Tree.{Rules, Question, verdict, ask, reached}
-use Rattle.hosts.specs.Rules.{needsMtaSts, isListed, mtaStsPasses, Taken, nothing, set, needsDane, needsAnything, takenPasses, lastVerdict, afterHandshake, connect, afterAnswer, seek, start, rules}
+use Rattle.hosts.specs.Rules.{isOld, needsMtaSts, isListed, mtaStsPasses, Taken, nothing, set, needsDane, needsAnything, takenPasses, lastVerdict, afterHandshake, connect, afterAnswer, seek, start, rules}
 use Rattle.hosts.specs.Demands.{isEstablished}
-use Rattle.hosts.specs.Verdicts.{Tried, tried, searchEnd, isLookupFailure, isLiveEnforce, listsHost, isHandshakeMade, testsAt, testsOf, is20, is21, is22, is23, tlsaReached, connectionReached, factsReached, asks}
+use Rattle.hosts.specs.Verdicts.{Tried, tried, searchEnd, isLookupFailure, isLiveEnforce, listsHost, isHandshakeMade, isMadeBelow0303, testsAt, testsOf, is20, is21, is22, is23, tlsaReached, connectionReached, factsReached, asks}
 use Rattle.hosts.proofs.AnswerCases.{authentication-is, by-answer}
-use Rattle.hosts.proofs.Verdicts.{enforced-is, listed-is, made-is}
+use Rattle.hosts.proofs.Second.{isMadeOld}
+use Rattle.hosts.proofs.Verdicts.{enforced-is, listed-is, made-is, old-is}
 
 -- facts with the numbers that ask for them
 abbrev pub asked : Address → List Fact → List Question
@@ -27,21 +28,22 @@ asked x (q ∷ qs) = record { number = asks q x; fact = q } ∷ asked x qs
 module _ (b : Base) (f : Full) where
   -- from STARTTLS on, where DANE is needed (u)
   abbrev onwards : Bool → List Fact
-  onwards u = starttls ∷ cond (f .offered) (handshake ∷ cond (isEstablished (f .outcome) && (u || needsMtaSts b)) (certificates ∷ []) []) []
+  onwards u = starttls ∷ cond (f .offered) (handshake ∷ cond (isEstablished (f .outcome) && ((u || needsMtaSts b) && not (isMadeOld (f .outcome)))) (certificates ∷ []) []) []
 
   module _ (x : Address) where
-    reached-handshake : (s : Taken) (m : Handshake) → reached (afterHandshake b s m) f ≡ asked x (cond (isEstablished m && (needsDane s || needsMtaSts b)) (certificates ∷ []) [])
-    reached-handshake s F.established = go (needsDane s || needsMtaSts b) (λ p. verdict (lastVerdict (needsDane s) (needsMtaSts b) (takenPasses b s p) (mtaStsPasses b p))) (λ p. refl)
+    reached-handshake : (s : Taken) (m : Handshake) → reached (afterHandshake b s m) f ≡ asked x (cond (isEstablished m && ((needsDane s || needsMtaSts b) && not (isMadeOld m))) (certificates ∷ []) [])
+    reached-handshake s (F.established version) = go (needsDane s || needsMtaSts b) (isOld version) (λ p. verdict (lastVerdict (needsDane s) (needsMtaSts b) (takenPasses b s p) (mtaStsPasses b p))) (λ p. refl)
       where
-        go : (t : Bool) (k : Presented → Rules) → ((p : Presented) → reached (k p) f ≡ []) → reached (cond t (ask 12 certificates k) (verdict 2)) f ≡ asked x (cond t (certificates ∷ []) [])
-        go true k n = rw (n (f .presented))
-        go false k n = refl
+        go : (t w : Bool) (k : Presented → Rules) → ((p : Presented) → reached (k p) f ≡ []) → reached (cond t (cond w (verdict 28) (ask 12 certificates k)) (verdict 2)) f ≡ asked x (cond (t && not w) (certificates ∷ []) [])
+        go true true k n = refl
+        go true false k n = rw (n (f .presented))
+        go false w k n = refl
     reached-handshake s F.failed = refl
 
     reached-connect : (s : Taken) → reached (connect b s) f ≡ asked x (onwards (needsDane s))
     reached-connect s = go (f .offered) (cond (needsAnything b s) 24 1)
       where
-        go : (o : Bool) (v : ℕ) → (record { number = 10; fact = starttls } ∷ reached (cond o (ask 11 handshake (afterHandshake b s)) (verdict v)) f) ≡ asked x (starttls ∷ cond o (handshake ∷ cond (isEstablished (f .outcome) && (needsDane s || needsMtaSts b)) (certificates ∷ []) []) [])
+        go : (o : Bool) (v : ℕ) → (record { number = 10; fact = starttls } ∷ reached (cond o (ask 11 handshake (afterHandshake b s)) (verdict v)) f) ≡ asked x (starttls ∷ cond o (handshake ∷ cond (isEstablished (f .outcome) && ((needsDane s || needsMtaSts b) && not (isMadeOld (f .outcome)))) (certificates ∷ []) []) [])
         go true v = rw (reached-handshake s (f .outcome))
         go false v = refl
 
@@ -68,13 +70,13 @@ module _ (b : Base) (f : Full) where
     reached-host p = reached-answer p (b .host) (connect b nothing) [] reached-nothing
 
     -- the facts that are reached after 20 and 21, in the paper's words: e is a live enforce policy, l whether it lists the host
-    abbrev found : (e l : Bool) → List Tried → Bool → List Fact
-    found e l ts m =
+    abbrev found : (e l : Bool) → List Tried → (m w : Bool) → List Fact
+    found e l ts m w =
         cond (e && not l) []
-        (tlsaReached first ts ++ cond (not (e && not l) && isLookupFailure (searchEnd ts .answer)) [] (starttls ∷ cond (f .offered) (handshake ∷ cond (m && (any usable (secureRecords (searchEnd ts .answer)) || e)) (certificates ∷ []) []) []))
+        (tlsaReached first ts ++ cond (not (e && not l) && isLookupFailure (searchEnd ts .answer)) [] (starttls ∷ cond (f .offered) (handshake ∷ cond (m && ((any usable (secureRecords (searchEnd ts .answer)) || e) && not w)) (certificates ∷ []) []) []))
 
-    reached-names : (ns : List TlsaName) (ts : List Tried) → reached (seek b first ns) f ≡ asked x (tlsaReached first ts ++ after (searchEnd ts)) → reached (start b (names ns)) f ≡ asked x (found (isLiveEnforce (b .clock) (b .policy)) (listsHost (b .host) (b .policy)) ts (isHandshakeMade (f .outcome)))
-    reached-names ns ts h = rw (enforced-is b f, listed-is b f, made-is (f .outcome)) (go (needsMtaSts b && not (isListed b)))
+    reached-names : (ns : List TlsaName) (ts : List Tried) → reached (seek b first ns) f ≡ asked x (tlsaReached first ts ++ after (searchEnd ts)) → reached (start b (names ns)) f ≡ asked x (found (isLiveEnforce (b .clock) (b .policy)) (listsHost (b .host) (b .policy)) ts (isHandshakeMade (f .outcome)) (isMadeBelow0303 (f .outcome)))
+    reached-names ns ts h = rw (enforced-is b f, listed-is b f, made-is (f .outcome), old-is (f .outcome)) (go (needsMtaSts b && not (isListed b)))
       where
         go : (u : Bool) → reached (cond u (verdict 23) (seek b first ns)) f ≡ asked x (cond u [] (tlsaReached first ts ++ cond (not u && isLookupFailure (searchEnd ts .answer)) [] (onwards (any usable (secureRecords (searchEnd ts .answer))))))
         go true = refl

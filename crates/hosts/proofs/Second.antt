@@ -15,7 +15,7 @@ use Rattle.hosts.specs.declared.HostAnswer.{HostAnswer}
 use Rattle.hosts.specs.Facts.{Base, Handshake, established, Place, first, second, tlsa, handshake, Full, value}
 use Rattle.hosts.specs.Facts as F
 use Rattle.hosts.specs.Tree.{Rules, verdict, ask, verdictOf, reached}
-use Rattle.hosts.specs.Rules.{needsMtaSts, isListed, mtaStsPasses, Taken, nothing, set, needs, isTls, needsDane, needsAnything, takenPasses, lastVerdict, afterHandshake, connect, domainOf, afterAnswer, seek, start, rules}
+use Rattle.hosts.specs.Rules.{isOld, needsMtaSts, isListed, mtaStsPasses, Taken, nothing, set, needs, isTls, needsDane, needsAnything, takenPasses, lastVerdict, afterHandshake, connect, domainOf, afterAnswer, seek, start, rules}
 use Rattle.hosts.specs.Arguments.{Arguments, baseOf}
 use Rattle.hosts.specs.Call.{hostAnswer}
 use Rattle.hosts.specs.Demands.{IsFull, fullOf, answersAt, isHandshake, isEstablished, hasAddress, noneFailed, noneUsable, noneAtAll, Demand2}
@@ -30,22 +30,29 @@ unauthenticated v = eqb v 1 || eqb v 2
 abbrev pub ended : (t e o m : Bool) → ℕ → ℕ
 ended t e o m v = cond o (cond m v (cond (t || e) 25 1)) (cond (t || e) 24 1)
 
--- the verdict where TLS is made: DANE needed (n), the checks (d, s)
-abbrev pub made : (n e d s : Bool) → ℕ
-made n e d s = cond (n || e) (lastVerdict n e d s) 2
+-- the verdict where TLS is made: DANE needed (n), an old version (w), the checks (d, s)
+abbrev pub made : (n e w d s : Bool) → ℕ
+made n e w d s = cond (n || e) (cond w 28 (lastVerdict n e d s)) 2
+
+-- made at an old version
+abbrev pub isMadeOld : Handshake → Bool
+isMadeOld (established version) = isOld version
+isMadeOld F.failed = false
 
 abbrev Made : (n e : Bool) → ℕ → Type 0
 Made n e v = (unauthenticated v ≡ (not n && not e)) × (eqb v 1 ≡ false)
 
-made-is : (n e d s : Bool) → Made n e (made n e d s)
-made-is true true true true = (refl, refl)
-made-is true true true false = (refl, refl)
-made-is true true false s = (refl, refl)
-made-is true false true s = (refl, refl)
-made-is true false false s = (refl, refl)
-made-is false true d true = (refl, refl)
-made-is false true d false = (refl, refl)
-made-is false false d s = (refl, refl)
+made-is : (n e w d s : Bool) → Made n e (made n e w d s)
+made-is true e true d s = (refl, refl)
+made-is false true true d s = (refl, refl)
+made-is true true false true true = (refl, refl)
+made-is true true false true false = (refl, refl)
+made-is true true false false s = (refl, refl)
+made-is true false false true s = (refl, refl)
+made-is true false false false s = (refl, refl)
+made-is false true false d true = (refl, refl)
+made-is false true false d false = (refl, refl)
+made-is false false w d s = (refl, refl)
 
 abbrev Ended : (n t e o m : Bool) → ℕ → Type 0
 Ended n t e o m v = (unauthenticated v ≡ (not n && (not e && ((o && m) || not t)))) × (eqb v 1 ≡ ((not n && (not e && ((o && m) || not t))) && not (o && m)))
@@ -94,13 +101,16 @@ module _ (b : Base) (f : Full) where
   quiet-cond false t u h v w p q = q
 
   module _ (s : Taken) where
-    -- the verdict where TLS is made
-    abbrev pub madeOf : ℕ
-    madeOf = made (needsDane s) (needsMtaSts b) (takenPasses b s (f .presented)) (mtaStsPasses b (f .presented))
+    -- the verdict where TLS is made, at an old version (w) or not
+    abbrev pub madeAt : Bool → ℕ
+    madeAt w = made (needsDane s) (needsMtaSts b) w (takenPasses b s (f .presented)) (mtaStsPasses b (f .presented))
 
-    quiet-handshake : (m : Handshake) → Quiet (afterHandshake b s m) false (cond (isEstablished m) madeOf (cond (needsAnything b s) 25 1))
+    abbrev pub madeOf : ℕ
+    madeOf = madeAt (isMadeOld (f .outcome))
+
+    quiet-handshake : (m : Handshake) → Quiet (afterHandshake b s m) false (cond (isEstablished m) (madeAt (isMadeOld m)) (cond (needsAnything b s) 25 1))
     unfolding any
-    quiet-handshake established = quiet-cond (needsDane s || needsMtaSts b) _ _ false _ _ (refl, refl, refl) (refl, refl, refl)
+    quiet-handshake (established version) = quiet-cond (needsDane s || needsMtaSts b) _ _ false _ _ (quiet-cond (isOld version) _ _ false _ _ (refl, refl, refl) (refl, refl, refl)) (refl, refl, refl)
     quiet-handshake F.failed = (refl, refl, refl)
 
     pub quiet-connect : Quiet (connect b s) (f .offered) (ended (isTls (needs s)) (needsMtaSts b) (f .offered) (isEstablished (f .outcome)) madeOf)
@@ -113,7 +123,7 @@ module _ (b : Base) (f : Full) where
 
     -- the end, after a set that needs DANE (n) and TLS (t)
     ended-connect : (n t : Bool) → needsDane s ≡ n → isTls (needs s) ≡ t → (n ≡ true → t ≡ true) → Ended n t (needsMtaSts b) (f .offered) (isEstablished (f .outcome)) (verdictOf (connect b s) f)
-    ended-connect n t p q h = rw (quiet-connect .2, q) (ended-is n t (needsMtaSts b) (f .offered) (isEstablished (f .outcome)) madeOf h (subst (λ (x : Bool). Made x (needsMtaSts b) madeOf) p (made-is (needsDane s) (needsMtaSts b) (takenPasses b s (f .presented)) (mtaStsPasses b (f .presented)))))
+    ended-connect n t p q h = rw (quiet-connect .2, q) (ended-is n t (needsMtaSts b) (f .offered) (isEstablished (f .outcome)) madeOf h (subst (λ (x : Bool). Made x (needsMtaSts b) madeOf) p (made-is (needsDane s) (needsMtaSts b) (isMadeOld (f .outcome)) (takenPasses b s (f .presented)) (mtaStsPasses b (f .presented)))))
 
   fits-nothing : FitsRules (connect b nothing)
   unfolding any

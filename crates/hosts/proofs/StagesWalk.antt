@@ -30,11 +30,11 @@ use Rattle.hosts.specs.declared.Stage.the-variants as S
 use Rattle.hosts.specs.declared.Connection.the-variants as C
 use Rattle.hosts.specs.Facts.{Base, Handshake, established, failed, Place, first, second, tlsa, certificates, Facts, isGiven, later}
 use Rattle.hosts.specs.Tree.{Rules, verdict, ask, missing, onGiven, walk, answersRead}
-use Rattle.hosts.specs.Rules.{needsMtaSts, isListed, mtaStsPasses, Taken, nothing, set, needs, isAuthentication, needsDane, takenPasses, lastVerdict, connect, afterAnswer, seek, start, rules}
+use Rattle.hosts.specs.Rules.{isOld, needsMtaSts, isListed, mtaStsPasses, Taken, nothing, set, needs, isAuthentication, needsDane, takenPasses, lastVerdict, connect, afterAnswer, seek, start, rules}
 use Rattle.hosts.specs.Arguments.{Arguments, originOf, addressOf, isAlias, lookupOf, offeredOf, outcomeOf, baseOf, presentedIn, factsOf}
 use Rattle.hosts.specs.Call.{outcomeAnswer, walked}
 use Rattle.hosts.specs.Stages.{readGiven, laterGiven, saying, noSet, readStage, hostRead, atHost, expandedRead, atExpanded, triesOf, namesStage, firstStage, handshakeStage, connection, certificateVerdict, ended, foundAnswer, reaching, walkAnswer}
-use Rattle.hosts.proofs.WalkReturns.{tries-meaning}
+use Rattle.hosts.proofs.WalkReturns.{offered-given, outcome-given, tries-meaning}
 
 -- the facts of a call, with what is given
 abbrev facts : Base → (x y : Option Answer) → Option Bool → Option Handshake → Bool → Presented → Facts
@@ -47,12 +47,13 @@ module _ (b : Base) (s : Taken) (x y : Option Answer) (p : Presented) where
   connect-reads (some false) m t = refl
   connect-reads (some true) none t = refl
   connect-reads (some true) (some failed) t = refl
-  connect-reads (some true) (some established) t = rw (go (needsDane s || needsMtaSts b) t)
+  connect-reads (some true) (some (established version)) t = rw (go (needsDane s || needsMtaSts b) (isOld version) t)
     where
-      go : (k t : Bool) → answersRead (cond k (ask 12 certificates (λ q. verdict (lastVerdict (needsDane s) (needsMtaSts b) (takenPasses b s q) (mtaStsPasses b q)))) (verdict 2)) (facts b x y (some true) (some established) t p) ≡ 0
-      go true true = refl
-      go true false = refl
-      go false t = refl
+      go : (k w t : Bool) → answersRead (cond k (cond w (verdict 28) (ask 12 certificates (λ q. verdict (lastVerdict (needsDane s) (needsMtaSts b) (takenPasses b s q) (mtaStsPasses b q))))) (verdict 2)) (facts b x y (some true) (some (established version)) t p) ≡ 0
+      go true true t = refl
+      go true false true = refl
+      go true false false = refl
+      go false w t = refl
 
   connect-is : (n : ℕ) (o : Option Bool) (m : Option Handshake) (t : Bool) → outcomeAnswer (facts b x y o m t p) n (walk (connect b s) (facts b x y o m t p)) ≡ ended n (lastVerdict (needsDane s) (needsMtaSts b) (takenPasses b s p) (mtaStsPasses b p)) (connection n (needs s) (needsMtaSts b) o m t)
   unfolding connection handshakeStage
@@ -62,12 +63,13 @@ module _ (b : Base) (s : Taken) (x y : Option Answer) (p : Presented) where
   connect-is n (some true) none true = refl
   connect-is n (some true) none false = refl
   connect-is n (some true) (some failed) t = refl
-  connect-is n (some true) (some established) t = go (needsDane s || needsMtaSts b) t
+  connect-is n (some true) (some (established version)) t = go (needsDane s || needsMtaSts b) (isOld version) t
     where
-      go : (k t : Bool) → outcomeAnswer (facts b x y (some true) (some established) t p) n (walk (cond k (ask 12 certificates (λ q. verdict (lastVerdict (needsDane s) (needsMtaSts b) (takenPasses b s q) (mtaStsPasses b q)))) (verdict 2)) (facts b x y (some true) (some established) t p)) ≡ ended n (lastVerdict (needsDane s) (needsMtaSts b) (takenPasses b s p) (mtaStsPasses b p)) (cond k (cond t C.Certificates (C.Answered (saying 12 n))) (C.Answered (saying 2 n)))
-      go true true = refl
-      go true false = refl
-      go false t = refl
+      go : (k w t : Bool) → outcomeAnswer (facts b x y (some true) (some (established version)) t p) n (walk (cond k (cond w (verdict 28) (ask 12 certificates (λ q. verdict (lastVerdict (needsDane s) (needsMtaSts b) (takenPasses b s q) (mtaStsPasses b q))))) (verdict 2)) (facts b x y (some true) (some (established version)) t p)) ≡ ended n (lastVerdict (needsDane s) (needsMtaSts b) (takenPasses b s p) (mtaStsPasses b p)) (cond k (cond w (C.Answered (saying 28 n)) (cond t C.Certificates (C.Answered (saying 12 n)))) (C.Answered (saying 2 n)))
+      go true true t = refl
+      go true false true = refl
+      go true false false = refl
+      go false w t = refl
 
 -- the last verdict by what is needed alone; where the MTA-STS check is needed, a pattern matches the host
 last-same : (d e l x y z : Bool) → (d ≡ true → x ≡ y) → (e && not l) ≡ false → lastVerdict d e x (l && z) ≡ lastVerdict d e (not d || y) (not e || z)
@@ -96,7 +98,7 @@ taken-is L.Failed lengths records d h = never cc
 module _ (n : Numbers) (b : Base) (further expanded L1 R1 L2 R2 : List ℕ) (k1 k2 : Bool) (a1 a2 : Answer) (p : Presented) where
   -- the facts of the call
   abbrev these : Facts
-  these = facts b (when k1 a1) (when k2 a2) (offeredOf (n .starttls)) (outcomeOf (n .handshake)) (eqb (n .«certificates_given») 1) p
+  these = facts b (when k1 a1) (when k2 a2) (offeredOf (n .starttls)) (outcomeOf (n .handshake) (n .«tls_version»)) (eqb (n .«certificates_given») 1) p
 
   -- what follows from the set that was found
   abbrev follow : Found → HostAnswer
@@ -110,7 +112,7 @@ module _ (n : Numbers) (b : Base) (further expanded L1 R1 L2 R2 : List ℕ) (k1 
     found-is : (s : Taken) (d : Needs) (i j : Bool) (q : ℕ) → needs s ≡ d → (isAuthentication d ≡ true → takenPasses b s p ≡ danePasses (references (b .origin) (cond i expanded (b .host)) (b .nextHop) (b .expandedNextHop)) (recordsOf (cond j L2 L1) (cond j R2 R1)) p) → outcomeAnswer these q (walk (connect b s) these) ≡ follow (record { needs = d; expanded = i; second = j; questions = q })
     unfolding foundAnswer certificateVerdict mtaStsPasses
     found-is s d i j q de dp =
-        connect-is b s (when k1 a1) (when k2 a2) p q (offeredOf (n .starttls)) (outcomeOf (n .handshake)) (eqb (n .«certificates_given») 1)
+        connect-is b s (when k1 a1) (when k2 a2) p q (offeredOf (n .starttls)) (outcomeOf (n .handshake) (n .«tls_version»)) (eqb (n .«certificates_given») 1)
         ∙ rw (de, oe, xe, last-same (isAuthentication d) (needsMtaSts b) (isListed b) (takenPasses b s p) (danePasses (references (b .origin) (cond i expanded (b .host)) (b .nextHop) (b .expandedNextHop)) (recordsOf (cond j L2 L1) (cond j R2 R1)) p) (showsHost (b .host) p) dp listed)
 
     -- after the last name there is no set
@@ -123,7 +125,7 @@ module _ (n : Numbers) (b : Base) (further expanded L1 R1 L2 R2 : List ℕ) (k1 
     answer-is i j pre c ce a ok domain de next nx h R.LookupFailed re = rw ce
     answer-is i j pre c ce a ok domain de next nx h (R.Taken d) re =
         let k = ok d re in
-        rw (connect-reads b (set domain (secureRecords a)) (when k1 a1) (when k2 a2) p (offeredOf (n .starttls)) (outcomeOf (n .handshake)) (eqb (n .«certificates_given») 1), ce)
+        rw (connect-reads b (set domain (secureRecords a)) (when k1 a1) (when k2 a2) p (offeredOf (n .starttls)) (outcomeOf (n .handshake) (n .«tls_version»)) (eqb (n .«certificates_given») 1), ce)
         (found-is (set domain (secureRecords a)) d i j c (rw (k .0) (k .1)) (λ t. rw (de, k .0)))
     answer-is i j pre c ce a ok domain de next nx h R.NextName re = h
 
@@ -133,7 +135,7 @@ module _ (n : Numbers) (b : Base) (further expanded L1 R1 L2 R2 : List ℕ) (k1 
     host-is place j pre q e e1 l le a ok false = rw (e, le)
     host-is place j pre q e e1 l le a ok true =
         answer-is false j (λ c. pre (1 + c)) (q + 1) e1 a ok (b .host) refl (connect b nothing) (noSet (q + 1))
-        (rw (connect-reads b nothing (when k1 a1) (when k2 a2) p (offeredOf (n .starttls)) (outcomeOf (n .handshake)) (eqb (n .«certificates_given») 1), e1) (none-is (q + 1)))
+        (rw (connect-reads b nothing (when k1 a1) (when k2 a2) p (offeredOf (n .starttls)) (outcomeOf (n .handshake) (n .«tls_version»)) (eqb (n .«certificates_given») 1), e1) (none-is (q + 1)))
         (readOf a) refl
 
     module _ (ok1 : Takes false a1) (ok2 : Takes true a2) (f s : Bool) (fe : later (tlsa first) these ≡ f) (se : later (tlsa second) these ≡ s) where
@@ -163,7 +165,7 @@ module _ (n : Numbers) (b : Base) (further expanded L1 R1 L2 R2 : List ℕ) (k1 
     names-are AddressMissing ee = refl
     names-are NoName ee =
         listed-is (needsMtaSts b && not (isListed b)) refl (connect b nothing) (noSet 0)
-        (λ l. rw (connect-reads b nothing (when k1 a1) (when k2 a2) p (offeredOf (n .starttls)) (outcomeOf (n .handshake)) (eqb (n .«certificates_given») 1)) (none-is oe xe l 0))
+        (λ l. rw (connect-reads b nothing (when k1 a1) (when k2 a2) p (offeredOf (n .starttls)) (outcomeOf (n .handshake) (n .«tls_version»)) (eqb (n .«certificates_given») 1)) (none-is oe xe l 0))
     names-are HostOnly ee =
         listed-is (needsMtaSts b && not (isListed b)) refl (seek b first (hostName ∷ [])) (atHost false 0 f (readGiven (when k1 a1)))
         (λ l. only-is oe xe l ok1 ok2 f s fe se)
@@ -199,6 +201,6 @@ walk-is a =
     (taken-is (lookupOf (a .numbers .«tlsa1_result»)) (a .lengths1) (a .records1)) (taken-is (lookupOf (a .numbers .«tlsa2_result»)) (a .lengths2) (a .records2))
     (leb 2 (a .numbers .«tlsa_answers») || laterGiven (a .numbers .starttls) (a .numbers .handshake) (a .numbers .«certificates_given»))
     (laterGiven (a .numbers .starttls) (a .numbers .handshake) (a .numbers .«certificates_given»))
-    (rw (when-given (leb 2 (a .numbers .«tlsa_answers»)) (answerOf (lookupOf (a .numbers .«tlsa2_result»)) (a .lengths2) (a .records2)), when-given (eqb (a .numbers .«certificates_given») 1) (presentedIn a)))
-    (rw (when-given (eqb (a .numbers .«certificates_given») 1) (presentedIn a)))
+    (rw (when-given (leb 2 (a .numbers .«tlsa_answers»)) (answerOf (lookupOf (a .numbers .«tlsa2_result»)) (a .lengths2) (a .records2)), offered-given (a .numbers .starttls), outcome-given (a .numbers .handshake) (a .numbers .«tls_version»), when-given (eqb (a .numbers .«certificates_given») 1) (presentedIn a)))
+    (rw (offered-given (a .numbers .starttls), outcome-given (a .numbers .handshake) (a .numbers .«tls_version»), when-given (eqb (a .numbers .«certificates_given») 1) (presentedIn a)))
     (triesOf (addressOf (a .numbers .address))) (expanded-is (addressOf (a .numbers .address)) (a .expanded)))

@@ -20,7 +20,7 @@ use Rattle.hosts.proofs.Trees.{Comes, comes}
 use Rattle.hosts.proofs.Shape.{isQuestion, verdict-no-refusal, question-no-refusal, isEarly, each-rules, at-most-two, unread}
 use Rattle.hosts.proofs.Accepted.{by-answer-of}
 
--- the answers of document 01's table that this call gives: 1 to 5, 10 to 14, 20 to 27, 50, 52 to 57, 60 to 62, 64 to 67
+-- the answers of document 01's table that this call gives, with 28: 1 to 5, 10 to 14, 20 to 28, 50, 52 to 57, 60 to 62, 64 to 67
 abbrev pub isAnswer : ℕ → Bool
 isAnswer n = isVerdict n || (within 10 14 n || (isPolicyRefusal n || (within 60 62 n || within 64 67 n)))
 

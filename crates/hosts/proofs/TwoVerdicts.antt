@@ -25,11 +25,11 @@ use Rattle.certificates.specs.Checks.{references, namesReference, recordMatches
 use Rattle.hosts.specs.Facts.{Base, Handshake, established, Place, first, second, tlsa, starttls, handshake, Facts, Full}
 use Rattle.hosts.specs.Facts as F
 use Rattle.hosts.specs.Tree.{Rules, verdict, ask, verdictOf}
-use Rattle.hosts.specs.Rules.{needsMtaSts, isListed, mtaStsPasses, Taken, nothing, set, needsDane, needsAnything, takenPasses, lastVerdict, authenticate, afterHandshake, connect, afterAnswer, seek, start, rules}
+use Rattle.hosts.specs.Rules.{isOld, needsMtaSts, isListed, mtaStsPasses, Taken, nothing, set, needsDane, needsAnything, takenPasses, lastVerdict, authenticate, afterHandshake, connect, afterAnswer, seek, start, rules}
 use Rattle.hosts.specs.Arguments.{isAlias}
 use Rattle.hosts.proofs.Pick.{pick, pick-any, pick-passes, pick-all}
 use Rattle.hosts.proofs.Trees.{fill, before, Two, Differ, Matters}
-use Rattle.hosts.proofs.Values.{OkAnswer, OkPresented, Ok, setOf, set-ok, nobody, nobody-ok}
+use Rattle.hosts.proofs.Values.{OkAnswer, OkPresented, OkHandshake, Ok, setOf, set-ok, nobody, nobody-ok}
 use Rattle.hosts.proofs.MadeCertificate.{showing, showing-ok, showing-host, showing-matches}
 use Rattle.hosts.proofs.AnswerCases.{authentication-is, by-answer}
 
@@ -135,8 +135,8 @@ module _ (b : Base) where
     somebody-sts (set domain rs) k l = and-intro (isListed b) _ l (showing-host (dataOf (pick usable spare rs)) domain (b .host) (k .0 .0) (host-ok .0))
 
     module _ (listed-ok : needsMtaSts b ≡ true → isListed b ≡ true) where
-      matters-authenticate : (s : Taken) → TakenOk s → Matters Ok (authenticate b s)
-      matters-authenticate s k = by-cond (Matters Ok) (needsDane s || needsMtaSts b) (λ e. (
+      matters-authenticate : (s : Taken) → TakenOk s → (version : ℕ) → Matters Ok (authenticate b s version)
+      matters-authenticate s k version = by-cond (Matters Ok) (needsDane s || needsMtaSts b) (λ e. by-cond (Matters Ok) (isOld version) (λ o. tt) (λ o. (
         record {
           left = setOf absent false nobody;
           right = setOf absent false (somebody s);
@@ -145,20 +145,23 @@ module _ (b : Base) where
           differ = λ g. last-apart (needsDane s) (needsMtaSts b) (takenPasses b s nobody) (mtaStsPasses b nobody) (takenPasses b s (somebody s)) (mtaStsPasses b (somebody s)) e (nobody-dane s) nobody-sts (somebody-dane s k) (λ z. somebody-sts s k (listed-ok z));
         },
         λ p h. tt,
-      )) (λ e. tt)
+      ))) (λ e. tt)
 
-      late-authenticate : (s : Taken) (f : Full) → late (verdictOf (authenticate b s) f) ≡ true
-      late-authenticate s f = by-cond (λ (t : Rules). late (verdictOf t f) ≡ true) (needsDane s || needsMtaSts b) (λ e. late-last (needsDane s) (needsMtaSts b) (takenPasses b s (f .presented)) (mtaStsPasses b (f .presented))) (λ e. refl)
+      late-authenticate : (s : Taken) (version : ℕ) (f : Full) → late (verdictOf (authenticate b s version) f) ≡ true
+      late-authenticate s version f =
+          by-cond (λ (t : Rules). late (verdictOf t f) ≡ true) (needsDane s || needsMtaSts b)
+          (λ e. by-cond (λ (t : Rules). late (verdictOf t f) ≡ true) (isOld version) (λ o. refl) (λ o. late-last (needsDane s) (needsMtaSts b) (takenPasses b s (f .presented)) (mtaStsPasses b (f .presented))))
+          (λ e. refl)
 
-      early : (s : Taken) (f : Full) (x : Bool) (n : ℕ) → late n ≡ false → cond x n 1 ≡ verdictOf (authenticate b s) f → ⊥
-      early s f true n h z = apart (sym h ∙ (ap late z ∙ late-authenticate s f))
-      early s f false n h z = apart (ap late z ∙ late-authenticate s f)
+      early : (s : Taken) (version : ℕ) (f : Full) (x : Bool) (n : ℕ) → late n ≡ false → cond x n 1 ≡ verdictOf (authenticate b s version) f → ⊥
+      early s version f true n h z = apart (sym h ∙ (ap late z ∙ late-authenticate s version f))
+      early s version f false n h z = apart (ap late z ∙ late-authenticate s version f)
 
       matters-connect : (s : Taken) → TakenOk s → Matters Ok (connect b s)
       matters-connect s k = (fork-10, λ o h. by-cond (Matters Ok) o (λ x. (fork-11, matters-handshake)) (λ x. tt))
         where
-          matters-handshake : (m : Handshake) → Unit {0} → Matters Ok (afterHandshake b s m)
-          matters-handshake established h = matters-authenticate s k
+          matters-handshake : (m : Handshake) → OkHandshake m → Matters Ok (afterHandshake b s m)
+          matters-handshake (established version) h = matters-authenticate s k version
           matters-handshake F.failed h = tt
 
           fork-10 : Two Ok (λ l r. (g : Facts) → Differ Ok (connect b s) (before starttls g) l r)
@@ -167,7 +170,7 @@ module _ (b : Base) where
             right = setOf absent true nobody;
             left-ok = set-ok absent false nobody tt nobody-ok;
             right-ok = set-ok absent true nobody tt nobody-ok;
-            differ = λ g. early s _ (needsAnything b s) 24 refl;
+            differ = λ g. early s 771 _ (needsAnything b s) 24 refl;
           }
 
           fork-11 : Two Ok (λ l r. (g : Facts) → Differ Ok (ask 11 handshake (afterHandshake b s)) (before handshake g) l r)
@@ -176,7 +179,7 @@ module _ (b : Base) where
             right = setOf absent true nobody;
             left-ok = set-ok absent false nobody tt nobody-ok;
             right-ok = set-ok absent true nobody tt nobody-ok;
-            differ = λ g. early s _ (needsAnything b s) 25 refl;
+            differ = λ g. early s 771 _ (needsAnything b s) 25 refl;
           }
 
       -- the rules after an answer inside the limits

@@ -1,13 +1,14 @@
--- Each verdict is answered exactly where document 01's condition for it holds, the thirteen conditions exclude each other, and one of them holds. Assumes nothing.
-use Prim.Native.Nat.{ℕ, _+_}
+-- Each verdict is answered exactly where the papers' condition for it holds, the fourteen conditions exclude each other, and one of them holds. Assumes nothing.
+use Prim.Native.Nat.{ℕ, _+_, _/_, _%_}
 use mathlib.Core.Path.{_≡_, refl, sym, _∙_, ap, subst}
 use mathlib.Core.Logic.{_↔_}
 use mathlib.Core.Bool.{Bool, true, false, not, cond, _&&_, _||_}
 use mathlib.Core.List.{List, [], _∷_}
 use mathlib.Core.Option.{Option, none, some}
-use lib.Dec.{T, eqb}
+use native.Mathlib.Omega.{arith}
+use lib.Dec.{T, eqb, ltb}
 use lib.ListN.{getD}
-use borrow.Author.Tests.{eq-eqb, eqb-true}
+use borrow.Author.Tests.{eq-eqb, eqb-true, eqb-false, ltb-true, ltb-false}
 use Rattle.lists.specs.Bytes.{any}
 use Rattle.lists.proofs.Bools.{apart, holds, by-true, by-cond}
 use Rattle.clock.specs.Clock.{isLive}
@@ -23,15 +24,15 @@ use Rattle.certificates.specs.Checks.{references, danePasses, showsHost}
 use Rattle.hosts.specs.Facts.{HeldPolicy, Base, Handshake, first, second, Full}
 use Rattle.hosts.specs.Facts as F
 use Rattle.hosts.specs.Tree.{Rules, verdict, verdictOf, answersRead}
-use Rattle.hosts.specs.Rules.{isEnforce, isEnforced, needsMtaSts, patternsOf, isListed, mtaStsPasses, Taken, nothing, set, needsDane, afterHandshake, connect, afterAnswer, seek, start, rules}
+use Rattle.hosts.specs.Rules.{isOld, isEnforce, isEnforced, needsMtaSts, patternsOf, isListed, mtaStsPasses, Taken, nothing, set, needsDane, afterHandshake, connect, afterAnswer, seek, start, rules}
 use Rattle.hosts.specs.Arguments.{Arguments, baseOf}
 use Rattle.hosts.specs.Call.{hostAnswer}
 use Rattle.hosts.specs.Demands.{isEstablished, IsFull, fullOf}
-use Rattle.hosts.specs.Verdicts.{addressFailed, addressMissing, Tried, tried, searchEnd, isLookupFailure, hasRecord, enforces, isLiveEnforce, listsHost, certifiesHost, isHandshakeMade, Tests, testsAt, testsOf, is1, is2, is3, is4, is5, is20, is21, is22, is23, is24, is25, is26, is27, Condition, conditions, holding, Exactly, answersUpTo, countOf}
+use Rattle.hosts.specs.Verdicts.{addressFailed, addressMissing, Tried, tried, searchEnd, isLookupFailure, hasRecord, enforces, isLiveEnforce, listsHost, certifiesHost, isHandshakeMade, isMadeBelow0303, Tests, testsAt, testsOf, is1, is2, is3, is4, is5, is20, is21, is22, is23, is24, is25, is26, is27, is28, Condition, conditions, holding, Exactly, answersUpTo, countOf}
 use Rattle.hosts.proofs.AnswerCases.{authentication-is, tls-is, by-answer}
 use Rattle.hosts.proofs.FullSets.{full-number, full-count}
 use Rattle.hosts.proofs.Trees.{full}
-use Rattle.hosts.proofs.Second.{ended, made, quiet-connect}
+use Rattle.hosts.proofs.Second.{ended, made, isMadeOld, quiet-connect}
 
 -- which of the numbers v is, and which of the conditions hold
 abbrev row : ℕ → List Condition → List Bool
@@ -54,45 +55,48 @@ each-exactly v [] e = tt
 each-exactly v (c ∷ cs) e = (both-ways v (c .number) (c .holds) (cc), each-exactly v cs (cc))
 
 -- the tests of a host with an address
-abbrev tests : (e l b k u o m d s : Bool) → Tests
-tests e l b k u o m d s = record { addressFails = false; addressless = false; enforced = e; listed = l; tlsaFails = b; taken = k; hasUsable = u; offered = o; established = m; danePassed = d; mtaStsPassed = s }
+abbrev tests : (e l b k u o m w d s : Bool) → Tests
+tests e l b k u o m w d s = record { addressFails = false; addressless = false; enforced = e; listed = l; tlsaFails = b; taken = k; hasUsable = u; offered = o; established = m; old = w; danePassed = d; mtaStsPassed = s }
 
-only-23 : (e l b k u o m d s : Bool) → (e && not l) ≡ true → Only 23 (tests e l b k u o m d s)
+only-23 : (e l b k u o m w d s : Bool) → (e && not l) ≡ true → Only 23 (tests e l b k u o m w d s)
 unfolding Only
-only-23 true false b k u o m d s h = (refl, refl)
-only-23 true true b k u o m d s h = apart h
-only-23 false l b k u o m d s h = apart h
+only-23 true false b k u o m w d s h = (refl, refl)
+only-23 true true b k u o m w d s h = apart h
+only-23 false l b k u o m w d s h = apart h
 
-only-22 : (e l k u o m d s : Bool) → (e && not l) ≡ false → Only 22 (tests e l true k u o m d s)
+only-22 : (e l k u o m w d s : Bool) → (e && not l) ≡ false → Only 22 (tests e l true k u o m w d s)
 unfolding Only
-only-22 true false k u o m d s h = apart (sym h)
-only-22 true true k u o m d s h = (refl, refl)
-only-22 false l k u o m d s h = (refl, refl)
+only-22 true false k u o m w d s h = apart (sym h)
+only-22 true true k u o m w d s h = (refl, refl)
+only-22 false l k u o m w d s h = (refl, refl)
 
 -- from STARTTLS on
-only-end : (e l k u o m d s : Bool) → (e && not l) ≡ false → (u ≡ true → k ≡ true) → Only (ended k e o m (made u e d s)) (tests e l false k u o m d s)
+only-end : (e l k u o m w d s : Bool) → (e && not l) ≡ false → (u ≡ true → k ≡ true) → Only (ended k e o m (made u e w d s)) (tests e l false k u o m w d s)
 unfolding Only
-only-end true false k u o m d s h g = apart (sym h)
-only-end true true true u false m d s h g = (refl, refl)
-only-end true true false u false m d s h g = (refl, refl)
-only-end false l true true false m d s h g = (refl, refl)
-only-end false l true false false m d s h g = (refl, refl)
-only-end false l false true false m d s h g = apart (g refl)
-only-end false l false false false m d s h g = (refl, refl)
-only-end true true true u true false d s h g = (refl, refl)
-only-end true true false u true false d s h g = (refl, refl)
-only-end false l true true true false d s h g = (refl, refl)
-only-end false l true false true false d s h g = (refl, refl)
-only-end false l false true true false d s h g = apart (g refl)
-only-end false l false false true false d s h g = (refl, refl)
-only-end true true k true true true true true h g = (refl, refl)
-only-end true true k true true true true false h g = (refl, refl)
-only-end true true k true true true false s h g = (refl, refl)
-only-end true true k false true true d true h g = (refl, refl)
-only-end true true k false true true d false h g = (refl, refl)
-only-end false l k true true true true s h g = (refl, refl)
-only-end false l k true true true false s h g = (refl, refl)
-only-end false l k false true true d s h g = (refl, refl)
+only-end true false k u o m w d s h g = apart (sym h)
+only-end true true true u false m w d s h g = (refl, refl)
+only-end true true false u false m w d s h g = (refl, refl)
+only-end false l true true false m w d s h g = (refl, refl)
+only-end false l true false false m w d s h g = (refl, refl)
+only-end false l false true false m w d s h g = apart (g refl)
+only-end false l false false false m w d s h g = (refl, refl)
+only-end true true true u true false w d s h g = (refl, refl)
+only-end true true false u true false w d s h g = (refl, refl)
+only-end false l true true true false w d s h g = (refl, refl)
+only-end false l true false true false w d s h g = (refl, refl)
+only-end false l false true true false w d s h g = apart (g refl)
+only-end false l false false true false w d s h g = (refl, refl)
+only-end true true k true true true true d s h g = (refl, refl)
+only-end true true k false true true true d s h g = (refl, refl)
+only-end false l k true true true true d s h g = (refl, refl)
+only-end true true k true true true false true true h g = (refl, refl)
+only-end true true k true true true false true false h g = (refl, refl)
+only-end true true k true true true false false s h g = (refl, refl)
+only-end true true k false true true false d true h g = (refl, refl)
+only-end true true k false true true false d false h g = (refl, refl)
+only-end false l k true true true false true s h g = (refl, refl)
+only-end false l k true true true false false s h g = (refl, refl)
+only-end false l k false true true w d s h g = (refl, refl)
 
 mode-is : (m : Mode) → enforces m ≡ isEnforce m
 mode-is M.Enforce = refl
@@ -100,8 +104,24 @@ mode-is M.Testing = refl
 mode-is M.None = refl
 
 pub made-is : (m : Handshake) → isHandshakeMade m ≡ isEstablished m
-made-is F.established = refl
+made-is (F.established version) = refl
 made-is F.failed = refl
+
+-- two bytes are below two others exactly where they are as one number
+pub old-is : (m : Handshake) → isMadeBelow0303 m ≡ isMadeOld m
+unfolding isOld
+old-is (F.established version) = go (ltb (version / 256) 3) (eqb (version / 256) 3) (ltb (version % 256) 3) (ltb version 771) refl refl refl refl
+  where
+    go : (x y z w : Bool) → ltb (version / 256) 3 ≡ x → eqb (version / 256) 3 ≡ y → ltb (version % 256) 3 ≡ z → ltb version 771 ≡ w → (x || (y && z)) ≡ w
+    go true y z true p q r s = refl
+    go true y z false p q r s = absurd (omega (arith, ltb-true (version / 256) 3 p, ltb-false version 771 s))
+    go false true true true p q r s = refl
+    go false true true false p q r s = absurd (omega (arith, eqb-true (version / 256) 3 q, ltb-true (version % 256) 3 r, ltb-false version 771 s))
+    go false true false true p q r s = absurd (omega (arith, eqb-true (version / 256) 3 q, ltb-false (version % 256) 3 r, ltb-true version 771 s))
+    go false true false false p q r s = refl
+    go false false z true p q r s = absurd (omega (arith, ltb-false (version / 256) 3 p, eqb-false (version / 256) 3 q, ltb-true version 771 s))
+    go false false z false p q r s = refl
+old-is F.failed = refl
 
 module _ (b : Base) (f : Full) where
   -- the two readings of the policy and of its check
@@ -127,7 +147,7 @@ module _ (b : Base) (f : Full) where
 
   -- the tests in the words of the rules, by the name at which the search ends
   abbrev at : Tried → Tests
-  at t = tests (needsMtaSts b) (isListed b) (isLookupFailure (t .answer)) (hasRecord (secureRecords (t .answer))) (any usable (secureRecords (t .answer))) (f .offered) (isEstablished (f .outcome)) (danePasses (references (b .origin) (t .name) (b .nextHop) (b .expandedNextHop)) (secureRecords (t .answer)) (f .presented)) (mtaStsPasses b (f .presented))
+  at t = tests (needsMtaSts b) (isListed b) (isLookupFailure (t .answer)) (hasRecord (secureRecords (t .answer))) (any usable (secureRecords (t .answer))) (f .offered) (isEstablished (f .outcome)) (isMadeOld (f .outcome)) (danePasses (references (b .origin) (t .name) (b .nextHop) (b .expandedNextHop)) (secureRecords (t .answer)) (f .presented)) (mtaStsPasses b (f .presented))
 
   abbrev Fits : Rules → List Tried → Type 0
   Fits t l = Only (verdictOf t f) (at (searchEnd l))
@@ -135,16 +155,16 @@ module _ (b : Base) (f : Full) where
   module _ (q : (needsMtaSts b && not (isListed b)) ≡ false) where
     fits-nothing : Fits (connect b nothing) []
     unfolding danePasses any
-    fits-nothing = rw (quiet-connect b f nothing .2) (only-end (needsMtaSts b) (isListed b) false false (f .offered) (isEstablished (f .outcome)) false (mtaStsPasses b (f .presented)) q (λ z. z))
+    fits-nothing = rw (quiet-connect b f nothing .2) (only-end (needsMtaSts b) (isListed b) false false (f .offered) (isEstablished (f .outcome)) (isMadeOld (f .outcome)) false (mtaStsPasses b (f .presented)) q (λ z. z))
 
     fits-taken : (domain : List ℕ) (ts : List Tried) (r : List ℕ) (rs : List (List ℕ)) → any short (r ∷ rs) ≡ false → Fits (connect b (set domain (r ∷ rs))) (record { name = domain; answer = secure (r ∷ rs) } ∷ ts)
     fits-taken domain ts r rs e =
         let s : Taken = set domain (r ∷ rs) in
         rw (quiet-connect b f s .2, e, authentication-is (r ∷ rs), tls-is r rs)
-        (only-end (needsMtaSts b) (isListed b) true (any usable (r ∷ rs)) (f .offered) (isEstablished (f .outcome)) (danePasses (references (b .origin) domain (b .nextHop) (b .expandedNextHop)) (r ∷ rs) (f .presented)) (mtaStsPasses b (f .presented)) q (λ z. refl))
+        (only-end (needsMtaSts b) (isListed b) true (any usable (r ∷ rs)) (f .offered) (isEstablished (f .outcome)) (isMadeOld (f .outcome)) (danePasses (references (b .origin) domain (b .nextHop) (b .expandedNextHop)) (r ∷ rs) (f .presented)) (mtaStsPasses b (f .presented)) q (λ z. refl))
 
-    fits-failed : (k u d : Bool) → Only 22 (tests (needsMtaSts b) (isListed b) true k u (f .offered) (isEstablished (f .outcome)) d (mtaStsPasses b (f .presented)))
-    fits-failed k u d = only-22 (needsMtaSts b) (isListed b) k u (f .offered) (isEstablished (f .outcome)) d (mtaStsPasses b (f .presented)) q
+    fits-failed : (k u d : Bool) → Only 22 (tests (needsMtaSts b) (isListed b) true k u (f .offered) (isEstablished (f .outcome)) (isMadeOld (f .outcome)) d (mtaStsPasses b (f .presented)))
+    fits-failed k u d = only-22 (needsMtaSts b) (isListed b) k u (f .offered) (isEstablished (f .outcome)) (isMadeOld (f .outcome)) d (mtaStsPasses b (f .presented)) q
 
     -- a name that is tried
     fits-answer : (domain : List ℕ) (next : Rules) (ts : List Tried) → Fits next ts → (a : Answer) → Fits (afterAnswer b domain (secureRecords a) next (readOf a)) (record { name = domain; answer = a } ∷ ts)
@@ -169,6 +189,7 @@ module _ (b : Base) (f : Full) where
     hasUsable = any usable (secureRecords (t .answer));
     offered = f .offered;
     established = sym (made-is (f .outcome)) i;
+    old = sym (old-is (f .outcome)) i;
     danePassed = danePasses (references (b .origin) (t .name) (b .nextHop) (b .expandedNextHop)) (secureRecords (t .answer)) (f .presented);
     mtaStsPassed = sym sts-is i;
   }
@@ -177,7 +198,7 @@ module _ (b : Base) (f : Full) where
   fits-found : (x : Address) (ns : List TlsaName) → addressFailed x ≡ false → addressMissing x ≡ false → ((needsMtaSts b && not (isListed b)) ≡ false → Fits (seek b first ns) (tried b f x)) → Only (verdictOf (start b (names ns)) f) (testsAt b f x (searchEnd (tried b f x)))
   fits-found x ns p q k =
       subst (Only (verdictOf (start b (names ns)) f)) (tests-are x p q (searchEnd (tried b f x)))
-      (by-cond (λ (t : Rules). Fits t (tried b f x)) (needsMtaSts b && not (isListed b)) (only-23 (needsMtaSts b) (isListed b) _ _ _ _ _ _ _) k)
+      (by-cond (λ (t : Rules). Fits t (tried b f x)) (needsMtaSts b && not (isListed b)) (only-23 (needsMtaSts b) (isListed b) _ _ _ _ _ _ _ _) k)
 
   fits-20 : Only 20 (testsAt b f Failed (searchEnd []))
   unfolding Only
@@ -206,7 +227,7 @@ module _ (b : Base) (f : Full) where
   reads t = answersRead t (full b f)
 
   reads-handshake : (s : Taken) (m : Handshake) → reads (afterHandshake b s m) ≡ 0
-  reads-handshake s F.established = by-cond (λ (t : Rules). reads t ≡ 0) (needsDane s || needsMtaSts b) (λ e. refl) (λ e. refl)
+  reads-handshake s (F.established version) = by-cond (λ (t : Rules). reads t ≡ 0) (needsDane s || needsMtaSts b) (λ e. by-cond (λ (t : Rules). reads t ≡ 0) (isOld version) (λ o. refl) (λ o. refl)) (λ e. refl)
   reads-handshake s F.failed = refl
 
   reads-connect : (s : Taken) → reads (connect b s) ≡ 0
@@ -250,7 +271,7 @@ module _ (b : Base) (f : Full) where
   unfolding rules testsOf countOf
   reads-rules = reads-address (b .address)
 
--- whatever the facts: of the thirteen conditions one holds and no other
+-- whatever the facts: of the fourteen conditions one holds and no other
 pub one-condition-holds : (b : Base) (f : Full) → (n : ℕ) × (holding (conditions (testsOf b f)) ≡ n ∷ [])
 unfolding Only
 one-condition-holds b f = (verdictOf (rules b) f, fits-rules b f .0)
@@ -317,6 +338,9 @@ module _ (a : Arguments) (h : IsFull a) where
 
   pub exactly-27 : eqb (hostAnswer a .number) 27 ≡ is27 testsIn
   exactly-27 = exactly 12
+
+  pub exactly-28 : eqb (hostAnswer a .number) 28 ≡ is28 testsIn
+  exactly-28 = exactly 13
 
   -- and its count is the paper's
   pub counts-exactly : hostAnswer a .«tlsa_questions» ≡ countOf (baseOf a) (fullOf a)

@@ -1,12 +1,12 @@
 -- The returns of the stages of the walk. Assumes nothing.
-use Prim.Native.Nat.{ℕ, _+_}
+use Prim.Native.Nat.{ℕ, _+_, _<_, _≤_}
 use mathlib.Core.Path.{_≡_, refl, sym, _∙_}
 use mathlib.Core.Bool.{Bool, true, false, cond, not, _&&_, _||_}
 use mathlib.Core.List.{List}
 use mathlib.Core.Option.{Option, none, some}
 use lib.Dec.{eqb, leb}
 use borrow.Author.Needs.{needs}
-use borrow.Author.Tests.{not-true, not-false, ne-eqb}
+use borrow.Author.Tests.{not-true, not-false, lt-ltb, le-ltb, ne-eqb}
 use Rattle.clock.specs.Clock.{isLive}
 use Rattle.policies.specs.declared.PolicyAnswer.{PolicyAnswer}
 use Rattle.policies.specs.declared.PolicyFor.{PolicyFor}
@@ -34,7 +34,7 @@ use Rattle.hosts.specs.declared.Found.{Found}
 use Rattle.hosts.specs.declared.Stage.{Stage}
 use Rattle.hosts.specs.declared.Connection.{Connection}
 use Rattle.hosts.specs.Facts.{established, failed, isGiven}
-use Rattle.hosts.specs.Rules.{isAuthentication, isTls, lastVerdict}
+use Rattle.hosts.specs.Rules.{isAuthentication, isTls, isOld, lastVerdict}
 use Rattle.hosts.specs.Arguments.{originOf, addressOf, lookupOf, offeredOf, outcomeOf}
 use Rattle.hosts.specs.Stages.{noPolicy, givenPolicy, policyNeeds, readGiven, laterGiven, asking, saying, readStage, hostRead, atHost, expandedRead, atExpanded, triesOf, namesStage, firstStage, handshakeStage, connection, certificateVerdict, foundAnswer, walkAnswer}
 
@@ -251,50 +251,62 @@ module _ (number : ℕ) (d : Needs) (e : Bool) where
 pub ruleset unless-laws = (unless-sts, unless-nothing, unless-tls, unless-authentication, needs)
 
 -- `at_handshake`
-module _ (n : ℕ) (d : Needs) (e : Bool) (m : ℕ) (c : Bool) where
+module _ (n : ℕ) (d : Needs) (e : Bool) (m version : ℕ) (c : Bool) where
   module _ (x : HostAnswer) where
-    pub handshake-asked : m ≡ 0 → x ≡ asking 11 n c → Connection.Answered x ≡ handshakeStage n d e (outcomeOf m) c
+    pub handshake-asked : m ≡ 0 → x ≡ asking 11 n c → Connection.Answered x ≡ handshakeStage n d e (outcomeOf m version) c
     unfolding handshakeStage
     handshake-asked h k = rw (h, k)
 
-    pub handshake-failed : (m ≡ 0 → ⊥) → (m ≡ 1 → ⊥) → (v : ℕ) → v ≡ cond (isTls d || e) 25 1 → x ≡ saying v n → Connection.Answered x ≡ handshakeStage n d e (outcomeOf m) c
+    pub handshake-failed : (m ≡ 0 → ⊥) → (m ≡ 1 → ⊥) → (v : ℕ) → v ≡ cond (isTls d || e) 25 1 → x ≡ saying v n → Connection.Answered x ≡ handshakeStage n d e (outcomeOf m version) c
     unfolding handshakeStage
     handshake-failed h k v ve g = rw (ne-eqb m 0 h, ne-eqb m 1 k, g, ve)
 
   module _ (up : m ≡ 1) (dane : Bool) (de : dane ≡ isAuthentication d) (k : Bool) (ke : k ≡ (dane || e)) where
-    pub handshake-unneeded : k ≡ false → (x : HostAnswer) → x ≡ saying 2 n → Connection.Answered x ≡ handshakeStage n d e (outcomeOf m) c
+    pub handshake-unneeded : k ≡ false → (x : HostAnswer) → x ≡ saying 2 n → Connection.Answered x ≡ handshakeStage n d e (outcomeOf m version) c
     unfolding handshakeStage
     handshake-unneeded h x g = rw (up, ← de, ← ke, h, g)
 
     module _ (kt : k ≡ true) where
-      pub handshake-given : c ≡ true → Connection.Certificates ≡ handshakeStage n d e (outcomeOf m) c
-      unfolding handshakeStage
-      handshake-given h = rw (up, ← de, ← ke, kt, h)
+      pub handshake-old : version < 771 → (x : HostAnswer) → x ≡ saying 28 n → Connection.Answered x ≡ handshakeStage n d e (outcomeOf m version) c
+      unfolding handshakeStage isOld
+      handshake-old o x g = rw (up, ← de, ← ke, kt, lt-ltb version 771 o, g)
 
-      pub handshake-certificates : c ≡ false → (x : HostAnswer) → x ≡ saying 12 n → Connection.Answered x ≡ handshakeStage n d e (outcomeOf m) c
-      unfolding handshakeStage
-      handshake-certificates h x g = rw (up, ← de, ← ke, kt, h, g)
+      module _ (o : 771 ≤ version) where
+        pub handshake-given : c ≡ true → Connection.Certificates ≡ handshakeStage n d e (outcomeOf m version) c
+        unfolding handshakeStage isOld
+        handshake-given h = rw (up, ← de, ← ke, kt, le-ltb version 771 o, h)
 
-pub ruleset handshake-laws = (handshake-asked, handshake-failed, handshake-unneeded, handshake-given, handshake-certificates, not-true, not-false, needs)
+        pub handshake-certificates : c ≡ false → (x : HostAnswer) → x ≡ saying 12 n → Connection.Answered x ≡ handshakeStage n d e (outcomeOf m version) c
+        unfolding handshakeStage isOld
+        handshake-certificates h x g = rw (up, ← de, ← ke, kt, le-ltb version 771 o, h, g)
 
--- `at_starttls`
-given-by : (m : ℕ) → isGiven (outcomeOf m) ≡ not (eqb m 0)
-given-by m = go (eqb m 0)
+pub ruleset handshake-laws = (handshake-asked, handshake-failed, handshake-unneeded, handshake-old, handshake-given, handshake-certificates, not-true, not-false, needs)
+
+-- what is given by its code
+code-given : {A : Type 0} (n : ℕ) (a : A) → isGiven (cond (eqb n 0) none (some a)) ≡ not (eqb n 0)
+code-given n a = go (eqb n 0)
   where
-    go : (t : Bool) → isGiven (cond t none (some (cond (eqb m 1) established failed))) ≡ not t
+    go : (t : Bool) → isGiven (cond t none (some a)) ≡ not t
     go true = refl
     go false = refl
 
-module _ (n : ℕ) (d : Needs) (e : Bool) (s m : ℕ) (c : Bool) where
-  pub starttls-asked : s ≡ 0 → (l : Bool) → l ≡ (not (eqb m 0) || c) → (x : HostAnswer) → x ≡ asking 10 n l → Connection.Answered x ≡ connection n d e (offeredOf s) (outcomeOf m) c
-  unfolding connection
-  starttls-asked h l le x g = rw (h, given-by m, ← le, g)
+pub offered-given : (s : ℕ) → isGiven (offeredOf s) ≡ not (eqb s 0)
+offered-given s = code-given s (eqb s 1)
 
-  pub starttls-not : (s ≡ 0 → ⊥) → (s ≡ 1 → ⊥) → (v : ℕ) → v ≡ cond (isTls d || e) 24 1 → (x : HostAnswer) → x ≡ saying v n → Connection.Answered x ≡ connection n d e (offeredOf s) (outcomeOf m) c
+pub outcome-given : (m version : ℕ) → isGiven (outcomeOf m version) ≡ not (eqb m 0)
+outcome-given m version = code-given m (cond (eqb m 1) (established version) failed)
+
+-- `at_starttls`
+module _ (n : ℕ) (d : Needs) (e : Bool) (s m version : ℕ) (c : Bool) where
+  pub starttls-asked : s ≡ 0 → (l : Bool) → l ≡ (not (eqb m 0) || c) → (x : HostAnswer) → x ≡ asking 10 n l → Connection.Answered x ≡ connection n d e (offeredOf s) (outcomeOf m version) c
+  unfolding connection
+  starttls-asked h l le x g = rw (h, outcome-given m version, ← le, g)
+
+  pub starttls-not : (s ≡ 0 → ⊥) → (s ≡ 1 → ⊥) → (v : ℕ) → v ≡ cond (isTls d || e) 24 1 → (x : HostAnswer) → x ≡ saying v n → Connection.Answered x ≡ connection n d e (offeredOf s) (outcomeOf m version) c
   unfolding connection
   starttls-not h k v ve x g = rw (ne-eqb s 0 h, ne-eqb s 1 k, g, ve)
 
-  pub starttls-offered : s ≡ 1 → (x : Connection) → x ≡ handshakeStage n d e (outcomeOf m) c → x ≡ connection n d e (offeredOf s) (outcomeOf m) c
+  pub starttls-offered : s ≡ 1 → (x : Connection) → x ≡ handshakeStage n d e (outcomeOf m version) c → x ≡ connection n d e (offeredOf s) (outcomeOf m version) c
   unfolding connection
   starttls-offered h x g = rw h g
 
@@ -346,7 +358,7 @@ verdict-is d e o domain hop further host L R p t te x xe y ye v ve = rw (← te,
 pub ruleset verdict-laws = (verdict-is, needs)
 
 -- `at_connection`: s, o, v are what its calls gave
-module _ (n : Numbers) (e : Bool) (f : Found) (domain hop further host L R : List ℕ) (p : Presented) (s : Connection) (se : s ≡ connection (f .questions) (f .needs) e (offeredOf (n .starttls)) (outcomeOf (n .handshake)) (eqb (n .«certificates_given») 1)) (x : HostAnswer) where
+module _ (n : Numbers) (e : Bool) (f : Found) (domain hop further host L R : List ℕ) (p : Presented) (s : Connection) (se : s ≡ connection (f .questions) (f .needs) e (offeredOf (n .starttls)) (outcomeOf (n .handshake) (n .«tls_version»)) (eqb (n .«certificates_given») 1)) (x : HostAnswer) where
   pub found-answered : s ≡ Connection.Answered x → x ≡ foundAnswer n e f domain hop further host L R p
   unfolding foundAnswer
   found-answered h = rw (← se, h)

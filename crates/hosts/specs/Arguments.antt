@@ -77,9 +77,9 @@ held fetched (policy p) = some (record { policy = p; fetched = fetched })
 abbrev pub offeredOf : ℕ → Option Bool
 offeredOf n = cond (eqb n 0) none (some (eqb n 1))
 
--- handshake: 0 not given, 1 established, 2 failed
-abbrev pub outcomeOf : ℕ → Option Handshake
-outcomeOf n = cond (eqb n 0) none (some (cond (eqb n 1) established failed))
+-- handshake: 0 not given, 1 established, 2 failed; tls_version is looked at only with 1
+abbrev pub outcomeOf : (handshake version : ℕ) → Option Handshake
+outcomeOf n version = cond (eqb n 0) none (some (cond (eqb n 1) (established version) failed))
 
 -- the facts that are given in every call. expanded_next_hop_given: 1 a name, 2 none
 unfoldable pub baseOf : Arguments → Base
@@ -105,7 +105,7 @@ factsOf a = record {
   tlsa1 = when (leb 1 (a .numbers .«tlsa_answers»)) (answerOf (lookupOf (a .numbers .«tlsa1_result»)) (a .lengths1) (a .records1));
   tlsa2 = when (leb 2 (a .numbers .«tlsa_answers»)) (answerOf (lookupOf (a .numbers .«tlsa2_result»)) (a .lengths2) (a .records2));
   offered = offeredOf (a .numbers .starttls);
-  outcome = outcomeOf (a .numbers .handshake);
+  outcome = outcomeOf (a .numbers .handshake) (a .numbers .«tls_version»);
   presented = when (eqb (a .numbers .«certificates_given») 1) (presentedIn a);
 }
 

@@ -24,7 +24,7 @@ use Rattle.hosts.specs.Arguments.{Arguments, originOf, addressOf, isAlia
 abbrev pub ifSupplied : Bool → Bool → Bool
 ifSupplied supplied test = not supplied || test
 
--- 67: every input code and yes/no number that is supplied is one of its named choices, and there are at most two TLSA answers
+-- 67: every input code and yes/no number that is supplied is one of its named choices, there are at most two TLSA answers, and the version of an established handshake has two bytes
 unfoldable pub codesFit : Arguments → Bool
 codesFit a =
     within 1 2 (a .numbers .«expanded_next_hop_given»)
@@ -36,6 +36,7 @@ codesFit a =
     && ifSupplied (leb 2 (a .numbers .«tlsa_answers»)) (within 1 4 (a .numbers .«tlsa2_result»))
     && leb (a .numbers .starttls) 2
     && leb (a .numbers .handshake) 2
+    && ifSupplied (eqb (a .numbers .handshake) 1) (leb (a .numbers .«tls_version») 65535)
     && leb (a .numbers .«certificates_given») 1
     && ifSupplied (eqb (a .numbers .«certificates_given») 1)
     (all yesNo (numbers (a .paths)) && yesNo (a .numbers .«trusted_root») && yesNo (a .numbers .«common_name_given»))

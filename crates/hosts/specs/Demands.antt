@@ -28,7 +28,7 @@ isRefusal n = leb 40 n
 
 -- what C can pass: bytes below 256 and numbers below 2 ^ 64
 pub record IsPassed (a : Arguments) : Type 0 where
-  pub numbers : T (all (λ (n : ℕ). leb n 18446744073709551615) (a .numbers .clock ∷ a .numbers .«expanded_next_hop_given» ∷ a .numbers .origin ∷ a .numbers .address ∷ a .numbers .«policy_given» ∷ a .numbers .fetched ∷ a .numbers .«tlsa_answers» ∷ a .numbers .«tlsa1_result» ∷ a .numbers .«tlsa2_result» ∷ a .numbers .starttls ∷ a .numbers .handshake ∷ a .numbers .«certificates_given» ∷ a .numbers .«trusted_root» ∷ a .numbers .«common_name_given» ∷ []))
+  pub numbers : T (all (λ (n : ℕ). leb n 18446744073709551615) (a .numbers .clock ∷ a .numbers .«expanded_next_hop_given» ∷ a .numbers .origin ∷ a .numbers .address ∷ a .numbers .«policy_given» ∷ a .numbers .fetched ∷ a .numbers .«tlsa_answers» ∷ a .numbers .«tlsa1_result» ∷ a .numbers .«tlsa2_result» ∷ a .numbers .starttls ∷ a .numbers .handshake ∷ a .numbers .«tls_version» ∷ a .numbers .«certificates_given» ∷ a .numbers .«trusted_root» ∷ a .numbers .«common_name_given» ∷ []))
   pub slices : T (all (all (λ (b : ℕ). leb b 255)) (a .nextHop ∷ a .expandedNextHop ∷ a .host ∷ a .expanded ∷ a .body ∷ a .lengths1 ∷ a .records1 ∷ a .lengths2 ∷ a .records2 ∷ a .certificates ∷ a .certificateLengths ∷ a .keyPlaces ∷ a .digests ∷ a .paths ∷ a .dnsIds ∷ a .dnsIdLengths ∷ a .commonName ∷ []))
 
 -- the call accepts the arguments: it does not refuse them (66 is a refusal)
@@ -79,7 +79,7 @@ abbrev pub isHandshake : Question → Bool
 isHandshake q = elim (q .fact) [ tlsa p ↦ false | starttls ↦ false | handshake ↦ true | certificates ↦ false ]
 
 abbrev pub isEstablished : Handshake → Bool
-isEstablished established = true
+isEstablished (established version) = true
 isEstablished failed = false
 
 -- an address was found

@@ -26,15 +26,16 @@ pub record Base : Type 0 where
   pub expanded : List ℕ
   pub policy : Option HeldPolicy
 
--- a handshake's outcome
+-- a handshake's outcome; an established one carries the version of TLS, its two wire bytes as one number, the high byte first (document 02, No. 6)
 pub data Handshake : Type 0 where
-  established failed : Handshake
+  established : ℕ → Handshake
+  failed : Handshake
 
 -- the two TLSA answers, by their place
 pub data Place : Type 0 where
   first second : Place
 
--- the later facts, in the order learnt: 2. TLSA answers, none to two; 3. STARTTLS offered or not; 4. handshake established or failed; 5. certificate facts
+-- the later facts, in the order learnt: 2. TLSA answers, none to two; 3. STARTTLS offered or not; 4. handshake established, with its version, or failed; 5. certificate facts
 pub data Fact : Type 0 where
   tlsa : Place → Fact
   starttls handshake certificates : Fact

@@ -1,8 +1,9 @@
--- Document 01, "A host's facts, in the order learnt": what a host needs, and the rules as one tree of questions.
-use Prim.Native.Nat.{ℕ}
+-- Document 01, "A host's facts, in the order learnt", with document 02, No. 6: what a host needs, and the rules as one tree of questions.
+use Prim.Native.Nat.{ℕ, _+_, _*_}
 use mathlib.Core.Bool.{Bool, true, false, not, cond, _&&_, _||_}
 use mathlib.Core.List.{List, [], _∷_}
 use mathlib.Core.Option.{Option, none, some}
+use lib.Dec.{ltb}
 use Rattle.names.specs.Name.{someMatches}
 use Rattle.clock.specs.Clock.{isLive}
 use Rattle.policies.specs.declared.Mode.{Mode}
@@ -92,16 +93,25 @@ lastVerdict false true d true = 4
 lastVerdict false true d false = 27
 lastVerdict false false d s = 2
 
--- an established handshake: where neither DANE nor MTA-STS is needed the walk stops, else certificate facts are asked for
-abbrev pub authenticate : Base → Taken → Rules
-authenticate b s =
-    cond (needsDane s || needsMtaSts b)
-    (ask 12 certificates (λ p. verdict (lastVerdict (needsDane s) (needsMtaSts b) (takenPasses b s p) (mtaStsPasses b p))))
+-- authentication is needed: by DANE or by the MTA-STS check
+abbrev pub needsAuthentication : Base → Taken → Bool
+needsAuthentication b s = needsDane s || needsMtaSts b
+
+-- a version of TLS below 03 03 hex
+unfoldable pub isOld : ℕ → Bool
+isOld version = ltb version (3 * 256 + 3)
+
+-- an established handshake: where no authentication is needed the walk stops; where it is and the version is old, it stops with 28, before 26; else certificate facts are asked for
+abbrev pub authenticate : Base → Taken → ℕ → Rules
+authenticate b s version =
+    cond (needsAuthentication b s)
+    (cond (isOld version) (verdict 28)
+    (ask 12 certificates (λ p. verdict (lastVerdict (needsDane s) (needsMtaSts b) (takenPasses b s p) (mtaStsPasses b p)))))
     (verdict 2)
 
 -- handshake failed: 25 if anything is needed, else 1
 abbrev pub afterHandshake : Base → Taken → Handshake → Rules
-afterHandshake b s established = authenticate b s
+afterHandshake b s (established version) = authenticate b s version
 afterHandshake b s failed = verdict (cond (needsAnything b s) 25 1)
 
 -- STARTTLS not offered: 24 if anything is needed, else 1

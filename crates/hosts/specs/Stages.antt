@@ -36,7 +36,7 @@ use Rattle.hosts.specs.declared.Stage.the-variants as S
 use Rattle.hosts.specs.declared.Connection.{Connection}
 use Rattle.hosts.specs.declared.Connection.the-variants as C
 use Rattle.hosts.specs.Facts.{Handshake, established, failed, isGiven}
-use Rattle.hosts.specs.Rules.{isAuthentication, isTls, lastVerdict}
+use Rattle.hosts.specs.Rules.{isAuthentication, isTls, isOld, lastVerdict}
 use Rattle.hosts.specs.Arguments.{Arguments, argumentsOf, originOf, addressOf, lookupOf, offeredOf, outcomeOf}
 use Rattle.hosts.specs.Call.{ifSupplied, codesFit, clocksFit, nextHopsFit, hostNamesFit, answersFit, certificatesFit, refused}
 
@@ -53,6 +53,7 @@ laterCodesFit n =
     && ifSupplied (leb 2 (n .«tlsa_answers»)) (within 1 4 (n .«tlsa2_result»))
     && leb (n .starttls) 2
     && leb (n .handshake) 2
+    && ifSupplied (eqb (n .handshake) 1) (leb (n .«tls_version») 65535)
     && leb (n .«certificates_given») 1
 
 -- the yes/no numbers of certificate facts
@@ -100,7 +101,7 @@ readGiven (some a) = Is (readOf a)
 
 -- a fact after the TLSA answers is given
 unfoldable pub laterGiven : (starttls handshake certificatesGiven : ℕ) → Bool
-laterGiven starttls handshake certificatesGiven = isGiven (offeredOf starttls) || (isGiven (outcomeOf handshake) || eqb certificatesGiven 1)
+laterGiven starttls handshake certificatesGiven = not (eqb starttls 0) || (not (eqb handshake 0) || eqb certificatesGiven 1)
 
 -- a question after n answers were read: 66 where a later fact is given
 abbrev pub asking : (number n : ℕ) → Bool → HostAnswer
@@ -160,7 +161,7 @@ namesStage ExpandedThenHost u f s x y = cond u (S.Answered (saying 23 0)) (atExp
 unfoldable pub handshakeStage : ℕ → Needs → (e : Bool) → Option Handshake → (certificatesGiven : Bool) → Connection
 handshakeStage n d e none c = C.Answered (asking 11 n c)
 handshakeStage n d e (some failed) c = C.Answered (saying (cond (isTls d || e) 25 1) n)
-handshakeStage n d e (some established) c = cond (isAuthentication d || e) (cond c C.Certificates (C.Answered (saying 12 n))) (C.Answered (saying 2 n))
+handshakeStage n d e (some (established version)) c = cond (isAuthentication d || e) (cond (isOld version) (C.Answered (saying 28 n)) (cond c C.Certificates (C.Answered (saying 12 n)))) (C.Answered (saying 2 n))
 
 -- STARTTLS, then the handshake
 unfoldable pub connection : ℕ → Needs → (e : Bool) → Option Bool → Option Handshake → (certificatesGiven : Bool) → Connection
@@ -184,7 +185,7 @@ ended n v C.Certificates = saying v n
 unfoldable pub foundAnswer : Numbers → (e : Bool) → Found → (domain nextHop expandedNextHop host lengths records : List ℕ) → Presented → HostAnswer
 foundAnswer n e f domain nextHop expandedNextHop host lengths records p =
     ended (f .questions) (certificateVerdict (f .needs) e (originOf (n .origin)) domain nextHop (when (eqb (n .«expanded_next_hop_given») 1) expandedNextHop) host lengths records p)
-    (connection (f .questions) (f .needs) e (offeredOf (n .starttls)) (outcomeOf (n .handshake)) (eqb (n .«certificates_given») 1))
+    (connection (f .questions) (f .needs) e (offeredOf (n .starttls)) (outcomeOf (n .handshake) (n .«tls_version»)) (eqb (n .«certificates_given») 1))
 
 -- the walk
 

@@ -1,12 +1,12 @@
--- Document 01, "A host's facts, in the order learnt", read a second time: for each verdict the condition under which it is given, from the paper's sentences; the count; and the facts that the rules reach.
+-- Document 01, "A host's facts, in the order learnt", with document 02, No. 6, read a second time: for each verdict the condition under which it is given, from the paper's sentences; the count; and the facts that the rules reach.
 -- Nothing here uses the tree of questions (Rules.antt, Tree.antt). proofs/Verdicts.antt proves that of an accepted full set the call answers a verdict exactly where its condition holds, and proofs/Reached.antt that the tree reaches these facts.
-use Prim.Native.Nat.{ℕ, _+_}
+use Prim.Native.Nat.{ℕ, _+_, _/_, _%_}
 use mathlib.Core.Path.{_≡_}
 use mathlib.Core.Logic.{_↔_}
 use mathlib.Core.Bool.{Bool, true, false, not, cond, _&&_, _||_}
 use mathlib.Core.List.{List, [], _∷_, _++_}
 use mathlib.Core.Option.{Option, none, some}
-use lib.Dec.{T, ltb}
+use lib.Dec.{T, eqb, ltb}
 use lib.ListN.{length}
 use Rattle.lists.specs.Bytes.{any}
 use Rattle.names.specs.Name.{matchesName}
@@ -111,8 +111,13 @@ certifiesHost host p = p .trustedRoot && ltb 0 (length (p .certificates)) && any
 
 -- handshake established
 abbrev pub isHandshakeMade : Handshake → Bool
-isHandshakeMade F.established = true
+isHandshakeMade (F.established version) = true
 isHandshakeMade F.failed = false
+
+-- established at a version whose two wire bytes are below 03 03 hex, the first before the second
+abbrev pub isMadeBelow0303 : Handshake → Bool
+isMadeBelow0303 (F.established version) = ltb (version / 256) 3 || (eqb (version / 256) 3 && ltb (version % 256) 3)
+isMadeBelow0303 F.failed = false
 
 -- the tests by which the verdicts differ
 
@@ -130,6 +135,8 @@ pub record Tests : Type 0 where
   -- STARTTLS offered; handshake established
   pub offered : Bool
   pub established : Bool
+  -- at a version below 03 03 hex
+  pub old : Bool
   -- DANE passes; MTA-STS passes
   pub danePassed : Bool
   pub mtaStsPassed : Bool
@@ -147,6 +154,7 @@ testsAt b f x t = record {
   hasUsable = any usable (secureRecords (t .answer));
   offered = f .offered;
   established = isHandshakeMade (f .outcome);
+  old = isMadeBelow0303 (f .outcome);
   danePassed = danePasses (references (b .origin) (t .name) (b .nextHop) (b .expandedNextHop)) (secureRecords (t .answer)) (f .presented);
   mtaStsPassed = listsHost (b .host) (b .policy) && certifiesHost (b .host) (f .presented);
 }
@@ -167,6 +175,10 @@ module _ (t : Tests) where
 
   abbrev pub mtaStsNeeded : Bool
   mtaStsNeeded = t .enforced
+
+  -- authentication is needed
+  abbrev pub authenticationNeeded : Bool
+  authenticationNeeded = daneNeeded || mtaStsNeeded
 
   abbrev pub anyNeeded : Bool
   anyNeeded = mtaStsNeeded || (daneNeeded || tlsNeeded)
@@ -205,29 +217,33 @@ module _ (t : Tests) where
   abbrev pub is1 : Bool
   is1 = connects && (not (t .offered && t .established) && not anyNeeded)
 
-  -- established: 26, then 27, then 5, 3, 4 or 2 by what was needed; where both are needed, both must pass
+  -- established: 28, then 26, then 27, then 5, 3, 4 or 2 by what was needed; where both are needed, both must pass
   abbrev pub encrypts : Bool
   encrypts = connects && (t .offered && t .established)
 
+  -- 28 (document 02, No. 6): authentication is needed and the version is below 03 03 hex
+  abbrev pub is28 : Bool
+  is28 = encrypts && (authenticationNeeded && t .old)
+
   -- 26: DANE did not match
   abbrev pub is26 : Bool
-  is26 = encrypts && (daneNeeded && not (t .danePassed))
+  is26 = encrypts && (not is28 && (daneNeeded && not (t .danePassed)))
 
   -- 27: MTA-STS certificate check did not pass
   abbrev pub is27 : Bool
-  is27 = encrypts && (not is26 && (mtaStsNeeded && not (t .mtaStsPassed)))
+  is27 = encrypts && (not is28 && (not is26 && (mtaStsNeeded && not (t .mtaStsPassed))))
 
   -- 5: authenticated by both
   abbrev pub is5 : Bool
-  is5 = encrypts && (daneNeeded && (mtaStsNeeded && (t .danePassed && t .mtaStsPassed)))
+  is5 = encrypts && (not is28 && (daneNeeded && (mtaStsNeeded && (t .danePassed && t .mtaStsPassed))))
 
   -- 3: by DANE
   abbrev pub is3 : Bool
-  is3 = encrypts && (daneNeeded && (not mtaStsNeeded && t .danePassed))
+  is3 = encrypts && (not is28 && (daneNeeded && (not mtaStsNeeded && t .danePassed)))
 
   -- 4: by MTA-STS
   abbrev pub is4 : Bool
-  is4 = encrypts && (not daneNeeded && (mtaStsNeeded && t .mtaStsPassed))
+  is4 = encrypts && (not is28 && (not daneNeeded && (mtaStsNeeded && t .mtaStsPassed)))
 
   -- 2: encrypted, unauthenticated
   abbrev pub is2 : Bool
@@ -238,7 +254,7 @@ pub record Condition : Type 0 where
   pub number : ℕ
   pub holds : Bool
 
--- the thirteen of the table
+-- the thirteen of the table, and 28
 abbrev pub conditions : Tests → List Condition
 conditions t =
     record { number = 1; holds = is1 t }
@@ -254,6 +270,7 @@ conditions t =
     ∷ record { number = 25; holds = is25 t }
     ∷ record { number = 26; holds = is26 t }
     ∷ record { number = 27; holds = is27 t }
+    ∷ record { number = 28; holds = is28 t }
     ∷ []
 
 -- the numbers whose conditions hold
@@ -284,9 +301,9 @@ abbrev pub tlsaReached : Place → List Tried → List Fact
 tlsaReached p [] = []
 tlsaReached p (t ∷ ts) = tlsa p ∷ cond (isNextName (t .answer)) (tlsaReached second ts) []
 
--- STARTTLS; the handshake where it is offered; certificate facts where it is established and DANE authentication or the MTA-STS check is needed
+-- STARTTLS; the handshake where it is offered; certificate facts where it is established, authentication is needed, and the version is not below 03 03 hex
 abbrev pub connectionReached : Tests → List Fact
-connectionReached t = starttls ∷ cond (t .offered) (handshake ∷ cond (t .established && (daneNeeded t || mtaStsNeeded t)) (certificates ∷ []) []) []
+connectionReached t = starttls ∷ cond (t .offered) (handshake ∷ cond (t .established && (authenticationNeeded t && not (t .old))) (certificates ∷ []) []) []
 
 -- in document 01's order: none under 20, 21 and 23, and none after the TLSA answers under 22
 unfoldable pub factsReached : Base → Full → List Fact

@@ -2,7 +2,7 @@
 ghost use mathlib.Core.Path.{_≡_};
 ghost use mathlib.Core.Bool.{_&&_};
 ghost use mathlib.Core.List.{[]};
-ghost use lib.Dec.{eqb};
+ghost use lib.Dec.{eqb, leb};
 ghost use Rattle.lists.specs.Bytes.{within};
 ghost use Rattle.names.specs.Name.{isName};
 ghost use Rattle.clock.specs.Clock.{isReading};
@@ -34,6 +34,16 @@ fn result_fits(supplied: bool, result: u64) -> bool
         return true;
     }
     is_within(1, 4, result)
+}
+
+// Whether the version of TLS, if it is supplied, has two bytes.
+fn version_fits(supplied: bool, version: u64) -> bool
+    ensures { λ r. ⌜ r ≡ ifSupplied supplied (leb version 65535) ⌝ }
+{
+    if !supplied {
+        return true;
+    }
+    version <= 65535
 }
 
 // Whether the codes of the facts that are given in every call, and the number of TLSA answers, are among their choices.
@@ -75,6 +85,10 @@ fn later_codes_fit(n: Numbers) -> bool
         return false;
     }
     if 2 < n.handshake {
+        return false;
+    }
+    let version = version_fits(n.handshake == 1, n.tls_version);
+    if !version {
         return false;
     }
     n.certificates_given <= 1

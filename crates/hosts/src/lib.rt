@@ -29,6 +29,7 @@ pub struct Numbers {
     pub tlsa2_result: u64,
     pub starttls: u64,
     pub handshake: u64,
+    pub tls_version: u64,
     pub certificates_given: u64,
     pub trusted_root: u64,
     pub common_name_given: u64,

@@ -24,6 +24,9 @@ use tlsa::Needs;
 use tlsa::Read;
 use tlsa::Tries;
 
+// TLS 1.2: its two wire bytes as one number.
+const TLS_1_2: u64 = 0x0303;
+
 // An answer of the call, after so many TLSA answers were read.
 pub fn say(number: u64, questions: u64) -> HostAnswer
     ensures { λ r. ⌜ r ≡ saying number questions ⌝ }
@@ -263,9 +266,16 @@ fn unless_needed(number: u64, needs: Needs, sts: bool) -> u64
     }
 }
 
-// The handshake, once STARTTLS is offered.
-fn at_handshake(questions: u64, needs: Needs, sts: bool, handshake: u64, given: bool) -> Connection
-    ensures { λ r. ⌜ r ≡ handshakeStage questions needs sts (outcomeOf handshake) given ⌝ }
+// The handshake, once STARTTLS is offered. `version`: that of an established one.
+fn at_handshake(
+    questions: u64,
+    needs: Needs,
+    sts: bool,
+    handshake: u64,
+    version: u64,
+    given: bool,
+) -> Connection
+    ensures { λ r. ⌜ r ≡ handshakeStage questions needs sts (outcomeOf handshake version) given ⌝ }
 {
     if handshake == 0 {
         return Connection::Answered(ask(11, questions, given));
@@ -278,6 +288,9 @@ fn at_handshake(questions: u64, needs: Needs, sts: bool, handshake: u64, given: 
     let checked = one_holds(dane, sts);
     if !checked {
         return Connection::Answered(say(2, questions));
+    }
+    if version < TLS_1_2 {
+        return Connection::Answered(say(28, questions));
     }
     if given {
         return Connection::Certificates;
@@ -292,9 +305,10 @@ fn at_starttls(
     sts: bool,
     starttls: u64,
     handshake: u64,
+    version: u64,
     given: bool,
 ) -> Connection
-    ensures { λ r. ⌜ r ≡ connection questions needs sts (offeredOf starttls) (outcomeOf handshake) given ⌝ }
+    ensures { λ r. ⌜ r ≡ connection questions needs sts (offeredOf starttls) (outcomeOf handshake version) given ⌝ }
 {
     if starttls == 0 {
         let later = one_holds(handshake != 0, given);
@@ -304,7 +318,7 @@ fn at_starttls(
         let number = unless_needed(24, needs, sts);
         return Connection::Answered(say(number, questions));
     }
-    at_handshake(questions, needs, sts, handshake, given)
+    at_handshake(questions, needs, sts, handshake, version, given)
 }
 
 // The verdict of an established handshake, by what is needed and passes.
@@ -507,6 +521,7 @@ fn at_connection(
         sts,
         n.starttls,
         n.handshake,
+        n.tls_version,
         n.certificates_given == 1,
     );
     match stage {

@@ -29,7 +29,7 @@ unfolding nextHost listsAnswer messageAnswer hostsFrom inOrder insert decided de
 orders = refl
 
 -- The verdicts on both sides of each bound, for a single host.
-verdicts : map (λ (v : ℕ). called (0 ∷ []) (v ∷ []) .number) (0 ∷ 1 ∷ 5 ∷ 6 ∷ 8 ∷ 9 ∷ 10 ∷ 19 ∷ 20 ∷ 27 ∷ 28 ∷ []) ≡ 63 ∷ 1 ∷ 5 ∷ 63 ∷ 63 ∷ 8 ∷ 63 ∷ 63 ∷ 31 ∷ 31 ∷ 63 ∷ []
+verdicts : map (λ (v : ℕ). called (0 ∷ []) (v ∷ []) .number) (0 ∷ 1 ∷ 5 ∷ 6 ∷ 8 ∷ 9 ∷ 10 ∷ 19 ∷ 20 ∷ 27 ∷ 28 ∷ 29 ∷ []) ≡ 63 ∷ 1 ∷ 5 ∷ 63 ∷ 63 ∷ 8 ∷ 63 ∷ 63 ∷ 31 ∷ 31 ∷ 31 ∷ 63 ∷ []
 unfolding nextHost listsAnswer messageAnswer hostsFrom inOrder insert decided decidedAnswer noHost isHostList isPreference isHostVerdict isDelivery isNextHost all numbers isWhole written
 verdicts = refl
 

@@ -15,7 +15,7 @@ use Rattle.messages.specs.declared.MxLookup.the-variants.{Answered, Fail
 unfoldable pub isPreference : ℕ → Bool
 isPreference p = leb p 65535
 
--- a host verdict: 9 (not tried yet), 1 to 5, or 20 to 27
+-- a host verdict: 9 (not tried yet), 1 to 5, or 20 to 28
 unfoldable pub isHostVerdict : ℕ → Bool
 isHostVerdict v = eqb v 9 || isVerdict v
 

@@ -12,6 +12,7 @@ use Rattle.hosts.specs.Call.{hostAnswer}
 use Rattle.hosts.specs.Demands.{fullOf}
 use Rattle.hosts.specs.Verdicts.{testsOf, conditions, holding, countOf}
 use Rattle.hosts.proofs.NextHops.{withExpanded, withNextHop}
+use Rattle.hosts.proofs.Versions.{withVersion}
 use Rattle.tweedstork.proofs.Cases.{hostComputed}
 
 -- records: 3 1 1 with the digest of the leaf's key info, and with another; 2 1 1 with that of the issuer's; usage 1
@@ -41,7 +42,7 @@ abbrev nextHop : List ℕ
 nextHop = text "example.com"
 
 -- what the sets differ in: origin, address result, whether the policy is given (1) or not (2), host, two TLSA answers (the first with one record),
--- STARTTLS, the handshake, the trusted-root flag and one DNS-ID
+-- STARTTLS, the handshake (at 03 03 hex), the trusted-root flag and one DNS-ID
 abbrev fullWith : (origin address policy : ℕ) (host : List ℕ) (tlsa1 : ℕ) (record1 : List ℕ) (tlsa2 starttls handshake root : ℕ) (id : List ℕ) → Arguments
 fullWith origin address policy host tlsa1 record1 tlsa2 starttls handshake root id = record {
   numbers = record {
@@ -56,6 +57,7 @@ fullWith origin address policy host tlsa1 record1 tlsa2 starttls handshake root 
     «tlsa2_result» = tlsa2;
     starttls = starttls;
     handshake = handshake;
+    «tls_version» = 771;
     «certificates_given» = 1;
     «trusted_root» = root;
     «common_name_given» = 2;
@@ -95,6 +97,7 @@ alone n k = record { answer = record { number = n; «tlsa_questions» = k }; hol
 -- 1, 2: nothing is needed, not offered; established. 3, 4, 5: DANE, MTA-STS, both are needed and pass
 -- 20, 21: also under a policy that doesn't list the host. 22: at the second name. 23: also where the first TLSA answer failed
 -- 24, 25: TLS is needed by a record that isn't usable. 26: DANE doesn't match, though MTA-STS passes. 27: DANE matches, and MTA-STS doesn't pass
+-- 28: at 03 02 hex, though both pass
 pub each-verdict :
     resultOf (fullWith 1 1 2 mail 3 [] 3 2 1 1 mail)
     ∷ resultOf (fullWith 1 1 2 mail 3 [] 3 1 1 1 mail)
@@ -109,6 +112,7 @@ pub each-verdict :
     ∷ resultOf (fullWith 1 1 2 mail 1 usage1 3 1 2 1 mail)
     ∷ resultOf (fullWith 1 1 1 mail 1 other 3 1 1 1 mail)
     ∷ resultOf (fullWith 1 1 1 mail 1 matching 3 1 1 1 stray)
+    ∷ resultOf (withVersion 770 (fullWith 1 1 1 mail 1 matching 3 1 1 1 mail))
     ∷ []
     ≡ alone 1 1
     ∷ alone 2 1
@@ -123,6 +127,7 @@ pub each-verdict :
     ∷ alone 25 1
     ∷ alone 26 1
     ∷ alone 27 1
+    ∷ alone 28 1
     ∷ []
 unfolding hostComputed fullOf testsOf countOf
 each-verdict = refl
@@ -216,3 +221,52 @@ pub refused-expanded-next-hops :
     ≡ 67 ∷ 67 ∷ 60 ∷ 60 ∷ 60 ∷ 60 ∷ 61 ∷ 2 ∷ []
 unfolding hostComputed
 refused-expanded-next-hops = refl
+
+-- The version of TLS (document 02, No. 6): 00 00, 02 03, 02 ff, 03 00 to 03 04, 04 00 and ff ff hex, beside a record that matches
+pub each-version :
+    map (λ (version : ℕ). resultOf (withVersion version (fullWith 1 1 2 mail 1 matching 3 1 1 1 stray)))
+    (0 ∷ 515 ∷ 767 ∷ 768 ∷ 769 ∷ 770 ∷ 771 ∷ 772 ∷ 1024 ∷ 65535 ∷ [])
+    ≡ alone 28 1 ∷ alone 28 1 ∷ alone 28 1 ∷ alone 28 1 ∷ alone 28 1 ∷ alone 28 1 ∷ alone 3 1 ∷ alone 3 1 ∷ alone 3 1 ∷ alone 3 1 ∷ []
+unfolding hostComputed fullOf testsOf countOf
+each-version = refl
+
+-- DANE, MTA-STS and both pass; DANE doesn't match; MTA-STS doesn't pass; both fail; nothing is needed; TLS is needed by a record that isn't usable;
+-- not offered, then handshake failed, each where DANE and where MTA-STS alone is needed; a TLSA lookup failed; no pattern matches
+abbrev needs : List Arguments
+needs =
+    fullWith 1 1 2 mail 1 matching 3 1 1 1 mail
+    ∷ fullWith 1 1 1 mail 3 [] 3 1 1 1 mail
+    ∷ fullWith 1 1 1 mail 1 matching 3 1 1 1 mail
+    ∷ fullWith 1 1 2 mail 1 other 3 1 1 1 mail
+    ∷ fullWith 1 1 1 mail 3 [] 3 1 1 1 stray
+    ∷ fullWith 1 1 1 mail 1 other 3 1 1 1 stray
+    ∷ fullWith 1 1 2 mail 3 [] 3 1 1 1 mail
+    ∷ fullWith 1 1 2 mail 1 usage1 3 1 1 1 mail
+    ∷ fullWith 1 1 2 mail 1 matching 3 2 1 1 mail
+    ∷ fullWith 1 1 1 mail 3 [] 3 2 1 1 mail
+    ∷ fullWith 1 1 2 mail 1 matching 3 1 2 1 mail
+    ∷ fullWith 1 1 1 mail 3 [] 3 1 2 1 mail
+    ∷ fullWith 1 1 1 mail 4 [] 3 1 1 1 mail
+    ∷ fullWith 1 1 1 stray 1 matching 3 1 1 1 mail
+    ∷ []
+
+-- at 03 03 hex, and at 03 02 hex: 28 in the place of the first six, and of no other
+pub each-need-at-two-versions :
+    map (λ (version : ℕ). map (λ (a : Arguments). hostAnswer (withVersion version a) .number) needs) (771 ∷ 770 ∷ [])
+    ≡ (3 ∷ 4 ∷ 5 ∷ 26 ∷ 27 ∷ 26 ∷ 2 ∷ 2 ∷ 24 ∷ 24 ∷ 25 ∷ 25 ∷ 22 ∷ 23 ∷ [])
+    ∷ (28 ∷ 28 ∷ 28 ∷ 28 ∷ 28 ∷ 28 ∷ 2 ∷ 2 ∷ 24 ∷ 24 ∷ 25 ∷ 25 ∷ 22 ∷ 23 ∷ [])
+    ∷ []
+unfolding hostComputed
+each-need-at-two-versions = refl
+
+-- A version of over two bytes: 67 where the handshake is established, also where STARTTLS isn't offered; after a failed one it is not looked at
+pub refused-versions :
+    map (λ (a : Arguments). hostAnswer (withVersion 65536 a) .number)
+    (fullWith 1 1 2 mail 3 [] 3 1 1 1 mail
+    ∷ fullWith 1 1 2 mail 1 matching 3 1 1 1 mail
+    ∷ fullWith 1 1 2 mail 1 matching 3 2 1 1 mail
+    ∷ fullWith 1 1 2 mail 1 matching 3 1 2 1 mail
+    ∷ [])
+    ≡ 67 ∷ 67 ∷ 67 ∷ 25 ∷ []
+unfolding hostComputed
+refused-versions = refl

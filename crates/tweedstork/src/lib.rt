@@ -26,7 +26,7 @@ use writing::WriteAnswer;
 pub extern "C" fn tweedstork_version() -> u64
     ensures { λ r. ⌜ r ≡ version ⌝ }
 {
-    10500
+    10600
 }
 
 // Which MTA-STS record do these TXT RDATAs hold, and what is its id?
@@ -79,6 +79,7 @@ pub extern "C" fn tweedstork_judge_host<'a>(
     tlsa2_records: &'a [u8],
     starttls: u64,
     handshake: u64,
+    tls_version: u64,
     certificates_given: u64,
     certificates: &'a [u8],
     certificate_lengths: &'a [u8],
@@ -91,7 +92,7 @@ pub extern "C" fn tweedstork_judge_host<'a>(
     common_name_given: u64,
     common_name: &'a [u8],
 ) -> HostAnswer
-    ensures { λ r. ⌜ Judged (argumentsOf (record { clock = clock; «expanded_next_hop_given» = «expanded_next_hop_given»; origin = origin; address = address; «policy_given» = «policy_given»; fetched = fetched; «tlsa_answers» = «tlsa_answers»; «tlsa1_result» = «tlsa1_result»; «tlsa2_result» = «tlsa2_result»; starttls = starttls; handshake = handshake; «certificates_given» = «certificates_given»; «trusted_root» = «trusted_root»; «common_name_given» = «common_name_given» }) (now («next_hop» .entry)) (now («expanded_next_hop» .entry)) (now (host .entry)) (now (expanded .entry)) (now (policy .entry)) (now («tlsa1_lengths» .entry)) (now («tlsa1_records» .entry)) (now («tlsa2_lengths» .entry)) (now («tlsa2_records» .entry)) (now (certificates .entry)) (now («certificate_lengths» .entry)) (now («key_places» .entry)) (now (digests .entry)) (now (paths .entry)) (now («dns_ids» .entry)) (now («dns_id_lengths» .entry)) (now («common_name» .entry))) r ⌝ }
+    ensures { λ r. ⌜ Judged (argumentsOf (record { clock = clock; «expanded_next_hop_given» = «expanded_next_hop_given»; origin = origin; address = address; «policy_given» = «policy_given»; fetched = fetched; «tlsa_answers» = «tlsa_answers»; «tlsa1_result» = «tlsa1_result»; «tlsa2_result» = «tlsa2_result»; starttls = starttls; handshake = handshake; «tls_version» = «tls_version»; «certificates_given» = «certificates_given»; «trusted_root» = «trusted_root»; «common_name_given» = «common_name_given» }) (now («next_hop» .entry)) (now («expanded_next_hop» .entry)) (now (host .entry)) (now (expanded .entry)) (now (policy .entry)) (now («tlsa1_lengths» .entry)) (now («tlsa1_records» .entry)) (now («tlsa2_lengths» .entry)) (now («tlsa2_records» .entry)) (now (certificates .entry)) (now («certificate_lengths» .entry)) (now («key_places» .entry)) (now (digests .entry)) (now (paths .entry)) (now («dns_ids» .entry)) (now («dns_id_lengths» .entry)) (now («common_name» .entry))) r ⌝ }
 {
     let _next_hop = is_bytes(next_hop);
     let _expanded_next_hop = is_bytes(expanded_next_hop);
@@ -122,6 +123,7 @@ pub extern "C" fn tweedstork_judge_host<'a>(
         tlsa2_result,
         starttls,
         handshake,
+        tls_version,
         certificates_given,
         trusted_root,
         common_name_given,

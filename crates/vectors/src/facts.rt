@@ -84,6 +84,7 @@ fn with_fact(s: &[u8], v: Fields, f: Fields, k: usize, by: u8) -> Fields {
         tlsa2_records b;\
         starttls n not_given offered not_offered;\
         handshake n not_given established failed;\
+        tls_version n;\
         certificates_given n no yes;\
         certificates b;\
         certificate_lengths b;\

@@ -4,17 +4,21 @@ use mathlib.Core.Path.{_≡_, refl}
 use mathlib.Core.Bool.{Bool, true, false}
 use native.Mathlib.Omega.{arith}
 use lib.Dec.{leb}
-use borrow.Author.Tests.{leb-true}
-use Rattle.lists.proofs.Bools.{and-left, and-right, or-elim}
+use borrow.Author.Tests.{leb-true, le-leb}
+use Rattle.lists.proofs.Bools.{and-left, and-right, and-intro, or-elim}
 use Rattle.verdicts.specs.Verdicts.{isDelivery, isNextHost, isVerdict}
 
 pub delivery-range : (n : ℕ) → isDelivery n ≡ true → (1 ≤ n) × (n ≤ 5)
 unfolding isDelivery
 delivery-range n h = (leb-true 1 n (and-left (leb 1 n) (leb n 5) h), leb-true n 5 (and-right (leb 1 n) (leb n 5) h))
 
-pub next-host-range : (n : ℕ) → isNextHost n ≡ true → (20 ≤ n) × (n ≤ 27)
+pub next-host-range : (n : ℕ) → isNextHost n ≡ true → (20 ≤ n) × (n ≤ 28)
 unfolding isNextHost
-next-host-range n h = (leb-true 20 n (and-left (leb 20 n) (leb n 27) h), leb-true n 27 (and-right (leb 20 n) (leb n 27) h))
+next-host-range n h = (leb-true 20 n (and-left (leb 20 n) (leb n 28) h), leb-true n 28 (and-right (leb 20 n) (leb n 28) h))
+
+pub next-host-from : (n : ℕ) → 20 ≤ n → n ≤ 28 → isNextHost n ≡ true
+unfolding isNextHost
+next-host-from n l u = and-intro (leb 20 n) (leb n 28) (le-leb 20 n l) (le-leb n 28 u)
 
 -- no verdict stands from 6 to 19, or from 30 on
 pub verdict-no-middle : (n : ℕ) → isVerdict n ≡ true → 6 ≤ n → n < 20 → ⊥

@@ -7,9 +7,9 @@ use Rattle.lists.specs.Bytes.{within}
 unfoldable pub isDelivery : ℕ → Bool
 isDelivery n = within 1 5 n
 
--- next host: 20 to 27
+-- next host: 20 to 27, and 28 (document 02, No. 6)
 unfoldable pub isNextHost : ℕ → Bool
-isNextHost n = within 20 27 n
+isNextHost n = within 20 28 n
 
 -- a verdict on a host
 abbrev pub isVerdict : ℕ → Bool

@@ -19,7 +19,7 @@ pub fn is_next_host(v: u64) -> bool
     if v < 20 {
         return false;
     }
-    if 27 < v {
+    if 28 < v {
         return false;
     }
     true

@@ -45,6 +45,7 @@ pub fn host(c: &HostCall) -> String {
         s("tlsa2_records", &c.tlsa[1].records),
         n("starttls", c.starttls),
         n("handshake", c.handshake),
+        n("tls_version", c.tls_version),
         n("certificates_given", c.certificates_given),
         s("certificates", &c.certificates),
         s("certificate_lengths", &c.certificate_lengths),

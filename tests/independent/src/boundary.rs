@@ -42,6 +42,7 @@ extern "C" {
         tlsa2_records: *const u8, tlsa2_records_length: usize,
         starttls: u64,
         handshake: u64,
+        tls_version: u64,
         certificates_given: u64,
         certificates: *const u8, certificates_length: usize,
         certificate_lengths: *const u8, certificate_lengths_length: usize,
@@ -267,7 +268,7 @@ impl Lender {
                 c.policy_given, p[4], c.policy.len(), c.fetched, c.tlsa_answers,
                 c.tlsa[0].result, p[5], c.tlsa[0].lengths.len(), p[6], c.tlsa[0].records.len(),
                 c.tlsa[1].result, p[7], c.tlsa[1].lengths.len(), p[8], c.tlsa[1].records.len(),
-                c.starttls, c.handshake, c.certificates_given,
+                c.starttls, c.handshake, c.tls_version, c.certificates_given,
                 p[9], c.certificates.len(), p[10], c.certificate_lengths.len(), p[11], c.key_places.len(),
                 p[12], c.digests.len(), p[13], c.paths.len(), c.trusted_root,
                 p[14], c.dns_ids.len(), p[15], c.dns_id_lengths.len(), c.common_name_given, p[16], c.common_name.len())

@@ -8,7 +8,7 @@ use crate::random::Random;
 use independent_rules::rules::{HostAnswer, HostCall, TlsaAnswer};
 
 fn is_verdict(number: u64) -> bool {
-    matches!(number, 1..=5 | 20..=27)
+    matches!(number, 1..=5 | 20..=28)
 }
 
 /// The call with each missing fact taken from another.
@@ -22,7 +22,7 @@ fn filled(c: &HostCall, facts: &HostCall) -> HostCall {
         f.starttls = facts.starttls;
     }
     if f.handshake == 0 {
-        f.handshake = facts.handshake;
+        (f.handshake, f.tls_version) = (facts.handshake, facts.tls_version);
     }
     if f.certificates_given == 0 {
         f.certificates_given = 1;
@@ -40,14 +40,15 @@ fn filled(c: &HostCall, facts: &HostCall) -> HostCall {
     f
 }
 
-/// Facts for every place: the TLSA result, STARTTLS, the handshake, and no certificate.
-fn bare(tlsa: u64, starttls: u64, handshake: u64) -> HostCall {
+/// Facts for every place: the TLSA result, STARTTLS, the handshake, at this version where it is established, and no certificate.
+fn bare(tlsa: u64, starttls: u64, handshake: u64, tls_version: u64) -> HostCall {
     let answer = TlsaAnswer { result: tlsa, ..Default::default() };
     HostCall {
         tlsa_answers: 2,
         tlsa: [answer.clone(), answer],
         starttls,
         handshake,
+        tls_version,
         certificates_given: 1,
         trusted_root: 1,
         common_name_given: 2,
@@ -78,7 +79,7 @@ fn passing(c: &HostCall, record: &[u8], reference: &[u8]) -> HostCall {
     };
     let digests = [sized(32), sized(64), sized(32), sized(64)].concat();
     let n = data.len() as u64;
-    let mut f = bare(3, 1, 1);
+    let mut f = bare(3, 1, 1, 0x0303);
     f.certificates = [data, data].concat();
     f.certificate_lengths = list(&[n, n]);
     f.key_places = list(&[0, n, 0, n]);
@@ -98,27 +99,19 @@ fn is_usable(r: &[u8]) -> bool {
 pub fn run_case(lender: &mut Lender, seed: u64, case: u64) -> Result<u64, String> {
     let mut r = Random::new(seed, 4, case);
     let mut c = inputs::host(&mut r);
-    // Fewer facts than the generator gives.
-    match r.below(6) {
-        0 => (c.tlsa_answers, c.starttls, c.handshake, c.certificates_given) = (c.tlsa_answers.min(1), 0, 0, 0),
-        1 => (c.tlsa_answers, c.starttls, c.handshake, c.certificates_given) = (0, 0, 0, 0),
-        2 => (c.starttls, c.handshake, c.certificates_given) = (0, 0, 0),
-        3 => (c.handshake, c.certificates_given) = (0, 0),
-        4 => c.certificates_given = 0,
-        _ => {}
-    }
+    inputs::drop_facts(&mut r, &mut c);
     let place = Place::random(&mut r);
     let mut ask = |c: &HostCall| -> HostAnswer { lender.judge_host(c, place) };
     let (number, questions) = ask(&c);
     if number >= 40 {
         return Ok(number);
     }
-    // Any facts: a verdict stays; a question becomes a verdict.
+    // Any facts, with a handshake at any version: a verdict stays; a question becomes a verdict.
     for _ in 0..2 {
-        let facts = inputs::host(&mut r);
+        let mut facts = inputs::host(&mut r);
+        (facts.handshake, facts.tls_version) = (r.between(1, 2) as u64, inputs::wire_version(&mut r));
         let mut full = filled(&c, &facts);
         full.starttls = if full.starttls == 0 { r.between(1, 2) as u64 } else { full.starttls };
-        full.handshake = if full.handshake == 0 { r.between(1, 2) as u64 } else { full.handshake };
         let then = ask(&full);
         let fillers_refused = matches!(then.0, 64 | 65 | 67);
         if is_verdict(number) && !fillers_refused && then != (number, questions) {
@@ -130,9 +123,9 @@ pub fn run_case(lender: &mut Lender, seed: u64, case: u64) -> Result<u64, String
     }
     // Two verdicts for each question.
     let two = match number {
-        13 | 14 => Some((bare(4, 2, 2), bare(3, 2, 2))),
-        10 => Some((bare(3, 2, 2), bare(3, 1, 1))),
-        11 => Some((bare(3, 1, 2), bare(3, 1, 1))),
+        13 | 14 => Some((bare(4, 2, 2, 0), bare(3, 2, 2, 0))),
+        10 => Some((bare(3, 2, 2, 0), bare(3, 1, 1, inputs::wire_version(&mut r)))),
+        11 => Some((bare(3, 1, 2, 0), bare(3, 1, 1, inputs::wire_version(&mut r)))),
         12 => {
             let base = if c.address == 3 && questions == 1 { c.expanded.clone() } else { c.host.clone() };
             let mut record: &[u8] = b"";
@@ -148,7 +141,7 @@ pub fn run_case(lender: &mut Lender, seed: u64, case: u64) -> Result<u64, String
                 }
             }
             let reference = *r.pick(&references(&c, &base));
-            Some((bare(3, 1, 1), passing(&c, record, reference)))
+            Some((bare(3, 1, 1, 0x0303), passing(&c, record, reference)))
         }
         _ => None,
     };

@@ -4,7 +4,7 @@
 use crate::arguments::Shown;
 use crate::boundary::{Lender, Place, PolicyCall, Side, StoreCall};
 use crate::caches::Cache;
-use crate::inputs::{lengths_of, list};
+use crate::inputs::{lengths_of, list, NEW_VERSIONS, NO_VERSIONS, OLD_VERSIONS};
 use independent_rules::cache::{self, Entry, LookupAnswer, ROOM};
 use independent_rules::publish::{self, WriteAnswer};
 use independent_rules::rules::{self, HostCall, PolicyAnswer, TlsaAnswer};
@@ -15,6 +15,7 @@ const BEFORE_GUARD: Place = Place { side: Side::BeforeGuard, turn: 1 };
 struct Check<'a> {
     lender: &'a mut Lender,
     passed: u64,
+    hosts: Vec<HostCall>,
 }
 
 impl Check<'_> {
@@ -59,6 +60,7 @@ impl Check<'_> {
         let ours = rules::judge_host(call);
         let theirs = self.lender.judge_host(call, BEFORE_GUARD);
         self.same(what, wanted, ours, theirs);
+        self.hosts.push(call.clone());
     }
 
     fn message(&mut self, preferences: &[u64], verdicts: &[u64], wanted: (u64, u64)) {
@@ -159,7 +161,7 @@ pub fn one_record(record: &[u8]) -> TlsaAnswer {
     TlsaAnswer { result: 1, lengths: list(&[record.len() as u64]), records: record.to_vec() }
 }
 
-/// A plain host with a secure answer of no records and no policy; nothing more given.
+/// A plain host with a secure answer of no records and no policy; nothing more given. The version counts once a handshake is given.
 pub fn plain() -> HostCall {
     HostCall {
         clock: 605_799,
@@ -171,6 +173,7 @@ pub fn plain() -> HostCall {
         policy_given: 2,
         tlsa_answers: 1,
         tlsa: [TlsaAnswer { result: 1, ..Default::default() }, TlsaAnswer::default()],
+        tls_version: 0x0303,
         ..Default::default()
     }
 }
@@ -386,6 +389,93 @@ fn refused_next_hops(c: &mut Check) {
     }
 }
 
+/// Document 02, No. 6: "Where authentication is needed and the version is below 03 03 hex, the verdict is the new 28, before 26."
+/// The call is one that gives 5 at 03 03 hex.
+fn old_versions(c: &mut Check, named: &HostCall) {
+    let mut with = |what: &str, change: &dyn Fn(&mut HostCall), old: (u64, u64), new: (u64, u64)| {
+        let mut call = named.clone();
+        change(&mut call);
+        for (versions, wanted) in [(OLD_VERSIONS, old), (NEW_VERSIONS, new), (NO_VERSIONS, (67, 0))] {
+            for tls_version in versions {
+                c.host(what, &HostCall { tls_version, ..call.clone() }, wanted);
+            }
+        }
+    };
+    with("both", &|_| {}, (28, 1), (5, 1));
+    with("DANE", &|c| c.policy_given = 2, (28, 1), (3, 1));
+    with("MTA-STS", &|c| c.tlsa[0].result = 3, (28, 1), (4, 1));
+    // "01's last case reads at 03 03 hex."
+    with("no DNS-ID", &|c| (c.dns_ids, c.dns_id_lengths) = Default::default(), (28, 1), (27, 1));
+    with("a record that does not match", &|c| c.tlsa[0].records[34] = 5, (28, 1), (26, 1));
+    with("no certificate", &|c| {
+        (c.certificates, c.certificate_lengths, c.key_places, c.digests, c.paths) = Default::default()
+    }, (28, 1), (26, 1));
+    // "It is final at the handshake stage, where the walk then stops."
+    with("certificate facts not given", &|c| c.certificates_given = 0, (28, 1), (12, 1));
+    with("certificate facts not given, MTA-STS", &|c| (c.address, c.certificates_given) = (2, 0), (28, 0), (12, 0));
+    with("facts that are not given", &|c| {
+        (c.certificates_given, c.trusted_root, c.paths, c.dns_id_lengths) = (0, 9, vec![9; 5], vec![9])
+    }, (28, 1), (12, 1));
+    // All that is given is checked.
+    with("digests of one byte less", &|c| c.digests.truncate(191), (65, 0), (65, 0));
+    with("DNS-IDs without their lengths", &|c| c.dns_id_lengths.clear(), (65, 0), (65, 0));
+    with("a path flag of 3", &|c| c.paths = list(&[3]), (67, 0), (67, 0));
+    with("no trusted-root code", &|c| c.trusted_root = 0, (67, 0), (67, 0));
+    // The count is that of the other verdicts.
+    let alias = |c: &mut HostCall, answers: u64| {
+        (c.address, c.expanded, c.tlsa_answers) = (3, b"mx.example.net".to_vec(), answers);
+        c.tlsa[1] = std::mem::take(&mut c.tlsa[0]);
+        c.tlsa[0].result = 3;
+    };
+    with("records at the host name of an alias", &|c| alias(c, 2), (28, 2), (5, 2));
+    with("a missing TLSA answer", &|c| alias(c, 1), (66, 0), (66, 0));
+    with("STARTTLS not given", &|c| c.starttls = 0, (66, 0), (66, 0));
+    // No authentication is needed, or the walk doesn't come to the handshake.
+    with("a stale policy, no record", &|c| (c.clock, c.tlsa[0].result) = (700_000, 2), (2, 1), (2, 1));
+    with("a stale policy, usage 1", &|c| (c.clock, c.tlsa[0].records[0]) = (700_000, 1), (2, 1), (2, 1));
+    with("a stale policy", &|c| c.clock = 700_000, (28, 1), (3, 1));
+    with("usage 1 beside a policy", &|c| c.tlsa[0].records[0] = 1, (28, 1), (4, 1));
+    with("not offered", &|c| c.starttls = 2, (24, 1), (24, 1));
+    with("address lookup failed", &|c| c.address = 6, (20, 0), (20, 0));
+    with("no address", &|c| c.address = 7, (21, 0), (21, 0));
+    with("TLSA lookup failed", &|c| c.tlsa[0].result = 4, (22, 1), (22, 1));
+    with("no pattern", &|c| c.host = b"a.b.example.com".to_vec(), (23, 0), (23, 0));
+    // 67 before 62.
+    with("a bad clock", &|c| c.clock = u64::MAX, (62, 0), (62, 0));
+}
+
+/// "(ignored after a failed one)"; and where no handshake is given there is no version either.
+fn ignored_versions(c: &mut Check, named: &HostCall) {
+    for tls_version in [OLD_VERSIONS, NEW_VERSIONS, NO_VERSIONS].concat() {
+        let failed = HostCall { handshake: 2, tls_version, ..named.clone() };
+        c.host("handshake failed", &failed, (25, 1));
+        c.host("handshake failed, nothing needed", &HostCall { address: 2, policy_given: 2, ..failed }, (1, 0));
+        let not_given = HostCall { handshake: 0, tls_version, ..named.clone() };
+        c.host("handshake not given", &HostCall { certificates_given: 0, ..not_given.clone() }, (11, 1));
+        c.host("handshake not given, certificate facts given", &not_given, (66, 0));
+        c.host("STARTTLS not given", &HostCall { starttls: 0, certificates_given: 0, ..not_given }, (10, 1));
+        let nothing_needed = HostCall { handshake: 1, tls_version, address: 2, policy_given: 2, ..named.clone() };
+        c.host("established, nothing needed", &nothing_needed, if tls_version > 65_535 { (67, 0) } else { (2, 0) });
+    }
+}
+
+/// "28 joins the "next host" verdicts that a message's host list accepts."
+fn listed_verdicts(c: &mut Check) {
+    for verdict in 0..=300 {
+        let wanted = match verdict {
+            1..=5 => (verdict, 0),
+            9 => (8, 0),
+            20..=28 => (31, 0),
+            _ => (63, 0),
+        };
+        c.message(&[10], &[verdict], wanted);
+        c.message(&[10, 20], &[28, verdict], if wanted.0 < 31 { (wanted.0, 1) } else { wanted });
+    }
+    c.message(&[20, 10, 10], &[9, 28, 24], (8, 0));
+    c.message(&[20, 10, 10], &[28, 22, 28], (31, 0));
+    c.message(&[10; 32], &[28; 32], (31, 0));
+}
+
 /// RFC 8461's example of a policy, from its section 3.2, and the one of its appendix A.
 const SECTION_3_2: &str = "\
 version: STSv1
@@ -504,8 +594,9 @@ fn rewritten_policies(c: &mut Check) {
     c.rewrite("version: STSv1\nmode: enforce\nmax_age: 1\n", Err(52));
 }
 
-pub fn run(lender: &mut Lender) -> u64 {
-    let mut c = Check { lender, passed: 0 };
+/// How many passed, and the host calls among them.
+pub fn run(lender: &mut Lender) -> (u64, Vec<HostCall>) {
+    let mut c = Check { lender, passed: 0, hosts: Vec::new() };
     let cache = cached(&mut c);
     cached_in_a_full_table(&mut c, cache);
     c.txt("v=STSv1; id=20160831085700Z;", (6, 12, 15));
@@ -561,7 +652,7 @@ pub fn run(lender: &mut Lender) -> u64 {
         c.host(line, &offending, (number, 0));
         c.host(line, &with(&offending, &|c| c.host.push(b'.')), (61, 0));
     }
-    // "record `3 1 1` with the leaf's key digest, live enforce policy with a pattern for the host, no DNS-ID: 27."
+    // "record `3 1 1` with the leaf's key digest, live enforce policy with a pattern for the host, no DNS-ID: 27", at 03 03 hex.
     let both = with(&policy("*.example.com", "mail.example.com", 605_799), &|c| {
         c.tlsa[0] = one_record(&[&[3, 1, 1][..], &[4; 32]].concat());
         (c.starttls, c.handshake, c.certificates_given) = (1, 1, 1);
@@ -587,6 +678,8 @@ pub fn run(lender: &mut Lender) -> u64 {
 
     expanded_next_hops(&mut c);
     refused_next_hops(&mut c);
+    old_versions(&mut c, &named);
+    ignored_versions(&mut c, &named);
 
     written_texts(&mut c);
     written_policies(&mut c);
@@ -597,5 +690,6 @@ pub fn run(lender: &mut Lender) -> u64 {
     c.message(&[20, 10, 10], &[9, 22, 24], (8, 0));
     c.message(&[20, 10, 10], &[9, 22, 9], (8, 2));
     c.message(&[20, 10, 10], &[26, 22, 24], (31, 0));
-    c.passed
+    listed_verdicts(&mut c);
+    (c.passed, c.hosts)
 }

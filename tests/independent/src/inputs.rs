@@ -885,6 +885,35 @@ fn expand_next_hop(r: &mut Random, c: &mut HostCall) {
     }
 }
 
+/// Versions of TLS at the edges: below 03 03 hex, from there on, and of more than two bytes. Some of the last would be a version,
+/// were only their low bytes looked at.
+pub const OLD_VERSIONS: [u64; 10] = [0, 1, 0x0003, 0x00ff, 0x0203, 0x0204, 0x02ff, 0x0300, 0x0301, 0x0302];
+pub const NEW_VERSIONS: [u64; 10] = [0x0303, 0x0304, 0x0305, 0x03ff, 0x0400, 0x0402, 0x7f00, 0x8000, 0xff02, 0xffff];
+pub const NO_VERSIONS: [u64; 10] = [
+    0x1_0000, 0x1_0001, 0x1_0301, 0x1_0303, 0x0303_0000, 1 << 32, (1 << 32) + 0x0301, (1 << 32) + 0x0303, 1 << 63, u64::MAX,
+];
+
+pub fn old_version(r: &mut Random) -> u64 {
+    if r.once_in(8) { r.below(0x0303) as u64 } else { *r.pick(&OLD_VERSIONS) }
+}
+
+pub fn new_version(r: &mut Random) -> u64 {
+    if r.once_in(8) { r.between(0x0303, 65_535) as u64 } else { *r.pick(&NEW_VERSIONS) }
+}
+
+pub fn no_version(r: &mut Random) -> u64 {
+    if r.once_in(8) { (r.next() >> r.below(48)).max(65_536) } else { *r.pick(&NO_VERSIONS) }
+}
+
+/// A version of two bytes.
+pub fn wire_version(r: &mut Random) -> u64 {
+    if r.once_in(2) { old_version(r) } else { new_version(r) }
+}
+
+fn any_version(r: &mut Random) -> u64 {
+    if r.once_in(4) { no_version(r) } else { wire_version(r) }
+}
+
 /// A record of usage 2 for a certificate after the leaf, and a leaf that names the expanded next-hop, and perhaps the host.
 fn name_expanded_next_hop(r: &mut Random, c: &mut HostCall, chain: &Chain) {
     if chain.certificates.len() < 2 {
@@ -1068,6 +1097,8 @@ pub fn host(r: &mut Random) -> HostCall {
         6 => c.certificates_given = 0,
         _ => {}
     }
+    // Mostly a version with which the certificates count; without an established handshake it is not looked at.
+    c.tls_version = if c.handshake == 1 && !r.once_in(6) { *r.pick(&[0x0303, 0x0304]) } else { any_version(r) };
     if c.certificates_given == 0 && r.once_in(2) {
         // not looked at
         c.paths = r.bytes(7);
@@ -1089,6 +1120,18 @@ pub fn host(r: &mut Random) -> HostCall {
         mutate_host(r, &mut c);
     }
     c
+}
+
+/// Fewer facts than the generator gives, mostly.
+pub fn drop_facts(r: &mut Random, c: &mut HostCall) {
+    match r.below(6) {
+        0 => (c.tlsa_answers, c.starttls, c.handshake, c.certificates_given) = (c.tlsa_answers.min(1), 0, 0, 0),
+        1 => (c.tlsa_answers, c.starttls, c.handshake, c.certificates_given) = (0, 0, 0, 0),
+        2 => (c.starttls, c.handshake, c.certificates_given) = (0, 0, 0),
+        3 => (c.handshake, c.certificates_given) = (0, 0),
+        4 => c.certificates_given = 0,
+        _ => {}
+    }
 }
 
 pub fn bad_code(r: &mut Random) -> u64 {
@@ -1140,7 +1183,7 @@ fn mutate_bytes(r: &mut Random, s: &mut Vec<u8>) {
 
 fn mutate_host(r: &mut Random, c: &mut HostCall) {
     let clock = |r: &mut Random| *r.pick(&[0, LAST_CLOCK, LAST_CLOCK + 1, LAST_CLOCK + 2, 1 << 38, u64::MAX, 1 << 63]);
-    match r.below(43) {
+    match r.below(44) {
         0 => c.clock = clock(r),
         1 => c.fetched = clock(r),
         2 => c.next_hop = bad_name(r, &c.next_hop.clone()),
@@ -1320,6 +1363,7 @@ fn mutate_host(r: &mut Random, c: &mut HostCall) {
             }
         }
         41 => c.expanded_next_hop_given = 3 - c.expanded_next_hop_given.clamp(1, 2),
+        42 => c.tls_version = any_version(r),
         _ => {
             let i = r.below(2);
             c.tlsa[i].result = r.between(1, 4) as u64;
@@ -1352,7 +1396,7 @@ pub fn message(r: &mut Random) -> (u64, Vec<u8>, Vec<u8>) {
             if next != usize::MAX && r.below(next) < 1 {
                 *r.pick(&[9, 9, 9, 1, 2, 3, 4, 5])
             } else {
-                r.between(20, 27) as u64
+                r.between(20, 28) as u64
             }
         })
         .collect();
@@ -1361,7 +1405,7 @@ pub fn message(r: &mut Random) -> (u64, Vec<u8>, Vec<u8>) {
         match r.below(4) {
             0 => preferences[i] = *r.pick(&[65_536, 65_537, 0xffff_ffff, 1 << 24, 65_535]),
             1 => {
-                verdicts[i] = *r.pick(&[0, 6, 7, 8, 9, 10, 14, 19, 28, 30, 31, 5, 1, 20, 27, 256 + 9, (1 << 16) + 1, 1 << 31, 0xffff_ffff]);
+                verdicts[i] = *r.pick(&[0, 6, 7, 8, 9, 10, 14, 19, 29, 30, 31, 5, 1, 20, 28, 256 + 9, (1 << 16) + 1, 1 << 31, 0xffff_ffff]);
             }
             2 => {
                 verdicts.pop();

@@ -20,6 +20,7 @@ mod publications;
 mod publishing;
 mod random;
 mod round_trips;
+mod versions;
 
 use boundary::{Lender, Place};
 use faults::Faults;
@@ -36,18 +37,21 @@ const CALLS: [&str; 7] = ["txt", "policy", "host", "message", "write_txt", "writ
 const ANSWERS: [&[u64]; 7] = [
     &[6, 40, 41, 42, 43, 44],
     &[7, 50, 52, 53, 54, 55, 56, 57],
-    &[1, 2, 3, 4, 5, 10, 11, 12, 13, 14, 20, 21, 22, 23, 24, 25, 26, 27, 50, 52, 53, 54, 55, 56, 57, 60, 61, 62, 64, 65, 66, 67],
+    &[
+        1, 2, 3, 4, 5, 10, 11, 12, 13, 14, 20, 21, 22, 23, 24, 25, 26, 27, 28, 50, 52, 53, 54, 55, 56, 57, 60, 61, 62, 64, 65, 66,
+        67,
+    ],
     &[1, 2, 3, 4, 5, 8, 30, 31, 63, 67],
     &[15, 80, 83],
     &[15, 67, 81, 82, 83],
     &[15, 50, 52, 53, 54, 55, 56, 57, 81, 83],
 ];
-/// The random stream of each call. Those between are of the tests that are no single call.
+/// The random stream of each call. The others are of the tests that are no single call.
 const STREAMS: [u64; 7] = [0, 1, 2, 3, 8, 9, 10];
 /// Of the cases that are asked for, a call gets one in so many.
 const ONE_IN: [u64; 7] = [1, 1, 1, 1, 1, 4, 4];
-/// Of so many cases each answer of a call has to come, each fault of a policy in every place, and each way of the expanded next-hop
-/// and of the calls that write.
+/// Of so many cases each answer of a call has to come, each fault of a policy in every place, and each way of the expanded
+/// next-hop, of the version and of the calls that write.
 const MANY: u64 = 100_000;
 const THREADS: u64 = 2;
 
@@ -87,6 +91,7 @@ fn run_case(lender: &mut Lender, seed: u64, call: usize, case: u64, seen: &mut S
             let ours = rules::judge_host(&c);
             let theirs = lender.judge_host(&c, place);
             seen.next_hops.count(&c, ours.0);
+            seen.ways.count(&versions::ways(&c, ours.0));
             outcome(theirs.0, ours, theirs, move || arguments::host(&c))
         }
         3 => {
@@ -104,7 +109,7 @@ fn run_case(lender: &mut Lender, seed: u64, call: usize, case: u64, seen: &mut S
 type Table = BTreeMap<u64, u64>;
 
 /// How often each answer number of a call came, where the lines that offend stood, what hung on the expanded next-hop, and the ways
-/// of a call that writes.
+/// of the version or of a call that writes.
 #[derive(Default)]
 struct Seen {
     numbers: Table,
@@ -191,7 +196,7 @@ fn main() {
         report(seed, call, case, &run_case(&mut lender, seed, call, case, &mut Seen::default()));
         return;
     }
-    let mut passed = examples::run(&mut lender);
+    let (mut passed, hosts) = examples::run(&mut lender);
     println!("{passed} fixed examples passed");
     passed += lengths::run(&mut lender, None);
     for (call, title) in CALLS.iter().enumerate() {
@@ -205,6 +210,7 @@ fn main() {
     passed += histories::run(&mut lender, seed, (cases / 25).max(5_000), (cases / 1_000).max(400));
     passed += claims::run(&mut lender, seed, (cases / 5_000).max(300));
     passed += round_trips::run(&mut lender, seed, (cases / 25).max(5_000));
+    passed += versions::run(&mut lender, seed, (cases / 10).max(100_000), &hosts);
     let begun = Instant::now();
     let mut table = Table::new();
     let some = cases / 4;
@@ -222,6 +228,10 @@ fn main() {
     println!("completions of host calls: {some} cases in {:.1} s", begun.elapsed().as_secs_f64());
     for (number, count) in &table {
         println!("  answer {number:2}: {count}");
+    }
+    if let Some(missing) = ANSWERS[2].iter().find(|number| !table.contains_key(number)).filter(|_| some >= MANY) {
+        println!("FAILED: too few cases gave {missing}");
+        std::process::exit(1);
     }
     // Two threads at once, each with its own memory and generator.
     let begun = Instant::now();

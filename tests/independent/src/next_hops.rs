@@ -46,7 +46,7 @@ impl NextHops {
 }
 
 /// What the rules answer to the call after a change.
-fn changed(call: &HostCall, change: impl Fn(&mut HostCall)) -> u64 {
+pub fn changed(call: &HostCall, change: impl Fn(&mut HostCall)) -> u64 {
     let mut other = call.clone();
     change(&mut other);
     rules::judge_host(&other).0

@@ -9,7 +9,7 @@ use crate::{outcome, Outcome};
 use independent_rules::publish::{self, WriteAnswer};
 
 /// In words, and whether a call is an example of it.
-type Way = (&'static str, bool);
+pub type Way = (&'static str, bool);
 
 /// How often each way of a call came.
 #[derive(Default)]
@@ -17,7 +17,7 @@ pub struct Ways(Vec<(&'static str, u64)>);
 
 impl Ways {
     /// The ways of a call are always the same, in the same order.
-    fn count(&mut self, ways: &[Way]) {
+    pub fn count(&mut self, ways: &[Way]) {
         if self.0.is_empty() {
             self.0 = ways.iter().map(|(way, _)| (*way, 0)).collect();
         }

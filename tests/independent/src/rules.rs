@@ -1,7 +1,7 @@
 //! The rules of document 01 ("What is being built, with exact rules"), and what document 02's No. 2 ("Say what is wrong with a
-//! policy") and No. 3 ("The third reference name") make of them, written a second time and independently of the library: plain
-//! safe Rust over whole values, with no thought for speed. Comments quote document 01, or 02 where they name it; "reading n" is the
-//! list of readings in docs/DECISIONS.md.
+//! policy"), No. 3 ("The third reference name") and No. 6 ("Old TLS") make of them, written a second time and independently of the
+//! library: plain safe Rust over whole values, with no thought for speed. Comments quote document 01, or 02 where they name it;
+//! "reading n" is the list of readings in docs/DECISIONS.md.
 
 use std::ops::Deref;
 
@@ -348,6 +348,7 @@ pub struct HostCall<B = Vec<u8>> {
     pub tlsa: [TlsaAnswer<B>; 2],
     pub starttls: u64,
     pub handshake: u64,
+    pub tls_version: u64,
     pub certificates_given: u64,
     pub certificates: B,
     pub certificate_lengths: B,
@@ -505,6 +506,11 @@ fn judged<B: Deref<Target = [u8]>>(call: &HostCall<B>) -> Result<HostAnswer, u64
     if !needs_dane && !needs_sts {
         return Ok((2, questions));
     }
+    // Document 02, No. 6: "Where authentication is needed and the version is below 03 03 hex, the verdict is the new 28, before 26.
+    // It is final at the handshake stage, where the walk then stops." Reading 1 there: authentication is DANE or the MTA-STS check.
+    if wire_bytes(call.tls_version) < [0x03, 0x03] {
+        return Ok((28, questions));
+    }
     let Some(facts) = facts else { return Ok((12, questions)) };
 
     // "Established: 26, then 27, then 5, 3, 4 or 2 by what was needed; where both are needed, both must pass (house)."
@@ -553,12 +559,19 @@ fn codes_are_choices<B: Deref<Target = [u8]>>(call: &HostCall<B>) -> bool {
         return false;
     }
     let tlsa = call.tlsa.iter().take(call.tlsa_answers as usize).all(|a| (1..=4).contains(&a.result));
+    // Document 02, No. 6: an established handshake carries the version "as its two wire bytes (ignored after a failed one)".
+    let version = call.handshake != 1 || call.tls_version <= 65_535;
     // Reading 3: each whole number of `paths`.
     let certificates = call.certificates_given == 0
         || ((1..=2).contains(&call.trusted_root)
             && (1..=2).contains(&call.common_name_given)
             && numbers(&call.paths).0.iter().all(|n| (1..=2).contains(n)));
-    tlsa && certificates
+    tlsa && version && certificates
+}
+
+/// The high byte first; there are no more than two.
+fn wire_bytes(version: u64) -> [u8; 2] {
+    [(version / 256) as u8, (version % 256) as u8]
 }
 
 enum TlsaFact<'a> {
@@ -672,7 +685,8 @@ pub fn next_host(mx_lookup: u64, preferences: &[u8], verdicts: &[u8]) -> Message
         && (1..=32).contains(&preferences.len())
         && preferences.len() == verdicts.len()
         && preferences.iter().all(|&p| p <= 65_535)
-        && verdicts.iter().all(|v| matches!(v, 9 | 1..=5 | 20..=27));
+        // Document 02, No. 6: "28 joins the "next host" verdicts that a message's host list accepts."
+        && verdicts.iter().all(|v| matches!(v, 9 | 1..=5 | 20..=28));
     if !good {
         return (63, 0);
     }

@@ -21,8 +21,14 @@ returns-3 c = search later-laws
 returns-4 : tie.Need-returns-4
 returns-4 c = search later-laws
 
+version-fits-requires : tie.Need-version-fits-requires
+version-fits-requires c κs = search later-laws
+
 returns-5 : tie.Need-returns-5
 returns-5 c = search later-laws
+
+returns-6 : tie.Need-returns-6
+returns-6 c = search later-laws
 
 pub later-codes-fit-spec : {M : Type 1} → statement M
 later-codes-fit-spec =
@@ -34,4 +40,6 @@ later-codes-fit-spec =
     returns-2
     returns-3
     returns-4
-    returns-5)
+    version-fits-requires
+    returns-5
+    returns-6)

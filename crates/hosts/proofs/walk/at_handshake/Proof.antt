@@ -30,14 +30,20 @@ say-requires-2 c κs = search handshake-laws
 returns-3 : tie.Need-returns-3
 returns-3 c = search handshake-laws
 
-returns-4 : tie.Need-returns-4
-returns-4 c = search handshake-laws
-
 say-requires-3 : tie.Need-say-requires-3
 say-requires-3 c κs = search handshake-laws
 
+returns-4 : tie.Need-returns-4
+returns-4 c = search handshake-laws
+
 returns-5 : tie.Need-returns-5
 returns-5 c = search handshake-laws
+
+say-requires-4 : tie.Need-say-requires-4
+say-requires-4 c κs = search handshake-laws
+
+returns-6 : tie.Need-returns-6
+returns-6 c = search handshake-laws
 
 pub at-handshake-spec : {M : Type 1} → statement M
 at-handshake-spec =
@@ -52,6 +58,8 @@ at-handshake-spec =
     one-holds-requires
     say-requires-2
     returns-3
-    returns-4
     say-requires-3
-    returns-5)
+    returns-4
+    returns-5
+    say-requires-4
+    returns-6)
