@@ -70,6 +70,7 @@ abbrev aged : Outcome → Outcome
 aged (final n) = cond (isByAuthentication n) (final 28) (final n)
 aged (missing q) = cond (isByAuthentication (q .number)) (final 28) (missing q)
 
+-- a choice of one
 either-way : {A : Type 0} (w : Bool) (x : A) → x ≡ cond w x x
 either-way true x = refl
 either-way false x = refl
@@ -256,17 +257,20 @@ withVersion version a = argumentsOf (record {
 }) (a .nextHop) (a .expandedNextHop) (a .host) (a .expanded) (a .body) (a .lengths1) (a .records1) (a .lengths2) (a .records2) (a .certificates) (a .certificateLengths) (a .keyPlaces) (a .digests) (a .paths) (a .dnsIds) (a .dnsIdLengths) (a .commonName)
 
 -- no refusal is an answer that authentication decides
-refusal-other : (n : ℕ) → isPolicyRefusal n ≡ true → not (isByAuthentication n) ≡ true
+abbrev isOther : ℕ → Bool
+isOther n = not (isByAuthentication n)
+
+refusal-other : (n : ℕ) → isPolicyRefusal n ≡ true → isOther n ≡ true
 refusal-other n h =
     let l = refusal-range n h .0 in
     rw (ne-eqb n 3 (λ e. omega (arith, l, e)), ne-eqb n 4 (λ e. omega (arith, l, e)), ne-eqb n 5 (λ e. omega (arith, l, e)), ne-eqb n 12 (λ e. omega (arith, l, e)), ne-eqb n 26 (λ e. omega (arith, l, e)), ne-eqb n 27 (λ e. omega (arith, l, e)))
 
-checked-old : (cs : List Check) (r : HostAnswer) → all (refusesBy (λ (n : ℕ). not (isByAuthentication n))) cs ≡ true → checked cs (orOld r) ≡ orOld (checked cs r)
+checked-old : (cs : List Check) (r : HostAnswer) → all (refusesBy isOther) cs ≡ true → checked cs (orOld r) ≡ orOld (checked cs r)
 unfolding all
 checked-old [] r h = refl
-checked-old (c ∷ cs) r h = go (c .passes) (and-left (refusesBy (λ (n : ℕ). not (isByAuthentication n)) c) (all (refusesBy (λ (n : ℕ). not (isByAuthentication n))) cs) h) (checked-old cs r (and-right (refusesBy (λ (n : ℕ). not (isByAuthentication n)) c) (all (refusesBy (λ (n : ℕ). not (isByAuthentication n))) cs) h))
+checked-old (c ∷ cs) r h = go (c .passes) (and-left (refusesBy isOther c) (all (refusesBy isOther) cs) h) (checked-old cs r (and-right (refusesBy isOther c) (all (refusesBy isOther) cs) h))
   where
-    go : (x : Bool) → (x || not (isByAuthentication (c .refusal))) ≡ true → checked cs (orOld r) ≡ orOld (checked cs r) → cond x (checked cs (orOld r)) (refused (c .refusal)) ≡ orOld (cond x (checked cs r) (refused (c .refusal)))
+    go : (x : Bool) → (x || isOther (c .refusal)) ≡ true → checked cs (orOld r) ≡ orOld (checked cs r) → cond x (checked cs (orOld r)) (refused (c .refusal)) ≡ orOld (cond x (checked cs r) (refused (c .refusal)))
     go true k ih = ih
     go false k ih = rw (not-true (isByAuthentication (c .refusal)) k)
 
@@ -302,7 +306,7 @@ module _ (a : Arguments) where
       -- Below, it is that at 03 03 hex, and 28 with its count where authentication decides it.
       pub old-exactly : x < 771 → hostAnswer (withVersion x a) ≡ orOld (hostAnswer (withVersion 771 a))
       unfolding hostAnswer isOld
-      old-exactly h = rw (same-checks, walks-by true (lt-ltb x 771 h)) (checked-old (checks (withVersion 771 a)) (walked (factsOf (withVersion 771 a))) (refusals (λ (n : ℕ). not (isByAuthentication n)) refl refusal-other (withVersion 771 a)))
+      old-exactly h = rw (same-checks, walks-by true (lt-ltb x 771 h)) (checked-old (checks (withVersion 771 a)) (walked (factsOf (withVersion 771 a))) (refusals isOther refl refusal-other (withVersion 771 a)))
 
       -- So an old version authenticates nobody: no answer there is delivery by DANE, by MTA-STS or by both, and certificate facts are neither asked for nor judged.
       pub old-authenticates-nobody : x < 771 → isByAuthentication (hostAnswer (withVersion x a) .number) ≡ false
