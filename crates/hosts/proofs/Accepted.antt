@@ -28,7 +28,7 @@ use Rattle.certificates.proofs.Written.{nameOf, facts-limits}
 use Rattle.hosts.specs.declared.HostAnswer.{HostAnswer}
 use Rattle.hosts.specs.Facts.{Handshake, established, failed, tlsa, first, second, starttls, handshake, certificates, given}
 use Rattle.hosts.specs.Arguments.{Arguments, originOf, addressOf, isAlias, lookupOf, outcomeOf, baseOf, presentedIn, factsOf}
-use Rattle.hosts.specs.Call.{ifSupplied, codesFit, clocksFit, nextHopsFit, hostFits, hostNamesFit, policyFits, answersFit, certificatesFit, checks, refused, checked, walked, hostAnswer}
+use Rattle.hosts.specs.Call.{ifSupplied, versionFits, codesFit, clocksFit, nextHopsFit, hostFits, hostNamesFit, policyFits, answersFit, certificatesFit, checks, refused, checked, walked, hostAnswer}
 use Rattle.hosts.specs.Demands.{isRefusal, IsPassed}
 use Rattle.hosts.proofs.Trees.{GivenOk}
 use Rattle.hosts.proofs.Values.{OkAnswer, sized, okCertificate, OkPresented, OkHandshake, Ok}
@@ -205,7 +205,7 @@ supplied true t h e = h
 supplied false t h e = apart e
 
 -- a version of over two bytes is no code
-pub bad-version : (a : Arguments) → ifSupplied (eqb (a .numbers .handshake) 1) (leb (a .numbers .«tls_version») 65535) ≡ false → codesFit a ≡ false
+pub bad-version : (a : Arguments) → versionFits (a .numbers) ≡ false → codesFit a ≡ false
 unfolding codesFit
 bad-version a e = simp (e, and-false)
 
@@ -226,10 +226,10 @@ module _ (a : Arguments) (passed : IsPassed a) (p : Passes a) where
       (slice-bytes a passed 9 (omega arith)) (slice-bytes a passed 12 (omega arith)) (slice-bytes a passed 14 (omega arith)) (slice-bytes a passed 16 (omega arith))
 
   -- the version of an established handshake has two bytes
-  version-fits : ifSupplied (eqb (a .numbers .handshake) 1) (leb (a .numbers .«tls_version») 65535) ≡ true
-  version-fits = go (ifSupplied (eqb (a .numbers .handshake) 1) (leb (a .numbers .«tls_version») 65535)) refl
+  version-fits : versionFits (a .numbers) ≡ true
+  version-fits = go (versionFits (a .numbers)) refl
     where
-      go : (t : Bool) → ifSupplied (eqb (a .numbers .handshake) 1) (leb (a .numbers .«tls_version») 65535) ≡ t → t ≡ true
+      go : (t : Bool) → versionFits (a .numbers) ≡ t → t ≡ true
       go true e = refl
       go false e = apart (sym (bad-version a e) ∙ p .codes)
 

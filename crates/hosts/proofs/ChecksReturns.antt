@@ -19,7 +19,7 @@ use Rattle.certificates.specs.Limits.{yesNo, factsFit}
 use Rattle.hosts.specs.declared.Refusal.{Refusal}
 use Rattle.hosts.specs.declared.Numbers.{Numbers}
 use Rattle.hosts.specs.Arguments.{Arguments, originOf, addressOf, isAlias, lookupOf}
-use Rattle.hosts.specs.Call.{ifSupplied, hostFits, codesFit, clocksFit, nextHopsFit, hostNamesFit, answersFit, certificatesFit}
+use Rattle.hosts.specs.Call.{ifSupplied, versionFits, hostFits, codesFit, clocksFit, nextHopsFit, hostNamesFit, answersFit, certificatesFit}
 use Rattle.hosts.specs.Stages.{baseCodesFit, laterCodesFit, certificateCodesFit, firstPart, lastPart, firstRefusal, lastRefusal}
 
 -- what is supplied is tested, what is not passes: `result_fits`, `version_fits`, `answer_fits`, `certificates_fit`
@@ -84,7 +84,7 @@ module _ (n : Numbers) (f : Bool) (fe : f ≡ ifSupplied (leb 1 (n .«tlsa_answe
         unfolding laterCodesFit
         later-handshake h = cc (le-leb (n .starttls) 2 o, lt-leb (n .handshake) 2 h)
 
-        module _ (h : n .handshake ≤ 2) (v : Bool) (ve : v ≡ ifSupplied (eqb (n .handshake) 1) (leb (n .«tls_version») 65535)) where
+        module _ (h : n .handshake ≤ 2) (v : Bool) (ve : v ≡ versionFits n) where
           pub later-version : v ≡ false → false ≡ laterCodesFit n
           unfolding laterCodesFit
           later-version t = cc (le-leb (n .starttls) 2 o, le-leb (n .handshake) 2 h)

@@ -1,7 +1,7 @@
 -- The facts that the rules reach come in document 01's order. So the first of them that isn't given is the first in that order. Assumes nothing.
 use Prim.Native.Nat.{ℕ}
 use mathlib.Core.Path.{_≡_, refl}
-use mathlib.Core.Bool.{true, not, _&&_, _||_}
+use mathlib.Core.Bool.{true, not, _&&_}
 use mathlib.Core.List.{List, [], _∷_}
 use lib.Dec.{ltb}
 use Rattle.tlsa.specs.declared.Address.{Address}
@@ -10,7 +10,7 @@ use Rattle.tlsa.specs.Address.{TlsaName, expandedName, hostName, names, namesTo
 use Rattle.tlsa.specs.Answer.{Answer}
 use Rattle.hosts.specs.Facts.{Base, Handshake, established, failed, first, second, tlsa, Full, value}
 use Rattle.hosts.specs.Tree.{Rules, reached}
-use Rattle.hosts.specs.Rules.{isOld, needsMtaSts, isListed, Taken, nothing, needsDane, afterHandshake, connect, domainOf, seek, start, rules}
+use Rattle.hosts.specs.Rules.{isOld, needsMtaSts, isListed, Taken, nothing, needsAuthentication, afterHandshake, connect, domainOf, seek, start, rules}
 use Rattle.hosts.specs.Demands.{isRising}
 use Rattle.lists.proofs.Bools.{by-cond}
 use Rattle.hosts.proofs.AnswerCases.{by-answer}
@@ -20,7 +20,7 @@ module _ (b : Base) (f : Full) where
   Rises n t = isRising n (reached t f) ≡ true
 
   rises-handshake : (s : Taken) (m : Handshake) → Rises 4 (afterHandshake b s m)
-  rises-handshake s (established version) = by-cond (Rises 4) (needsDane s || needsMtaSts b) (λ e. by-cond (Rises 4) (isOld version) (λ o. refl) (λ o. refl)) (λ e. refl)
+  rises-handshake s (established version) = by-cond (Rises 4) (needsAuthentication b s) (λ e. by-cond (Rises 4) (isOld version) (λ o. refl) (λ o. refl)) (λ e. refl)
   rises-handshake s failed = refl
 
   rises-connect : (n : ℕ) → ltb n 3 ≡ true → (s : Taken) → Rises n (connect b s)

@@ -24,7 +24,7 @@ use Rattle.certificates.proofs.References.{secure-without, insecure-with-any, n
 use Rattle.hosts.specs.declared.HostAnswer.{HostAnswer}
 use Rattle.hosts.specs.Facts.{Base, Handshake, established, failed, Place, first, second, Fact, Value, tlsa, starttls, handshake, certificates, Facts, given, later}
 use Rattle.hosts.specs.Tree.{Rules, verdict, ask, Outcome, final, missing, onGiven, walk, isTlsa, answersRead}
-use Rattle.hosts.specs.Rules.{isOld, needsMtaSts, isListed, mtaStsPasses, Taken, nothing, set, needsDane, needsAnything, takenPasses, lastVerdict, authenticate, afterHandshake, connect, afterAnswer, seek, start, rules}
+use Rattle.hosts.specs.Rules.{isOld, needsMtaSts, isListed, mtaStsPasses, Taken, nothing, set, needsDane, needsAuthentication, needsAnything, takenPasses, lastVerdict, authenticate, afterHandshake, connect, afterAnswer, seek, start, rules}
 use Rattle.hosts.specs.Arguments.{Arguments, originOf, baseOf, presentedIn, factsOf}
 use Rattle.hosts.specs.Call.{codesFit, clocksFit, nextHopsFit, hostNamesFit, policyFits, answersFit, certificatesFit, checks, refused, outcomeAnswer, walked, hostAnswer}
 use Rattle.hosts.proofs.Accepted.{policy-refusal}
@@ -158,7 +158,7 @@ module _ (b : Base) (hop x y : List ℕ) (dane : ByEither (b .origin) hop x y) (
   either-authenticate : (s : Taken) (version : ℕ) → Either (authenticate withThird s version) (authenticate withoutThird s version) (authenticate withOther s version)
   unfolding needsMtaSts mtaStsPasses isListed
   either-authenticate s version =
-      either-cond (needsDane s || needsMtaSts b) _ _ _ _ _ _
+      either-cond (needsAuthentication b s) _ _ _ _ _ _
       (either-cond (isOld version) _ _ _ _ _ _ (either-verdict 28) (either-ask 12 refl certificates _ _ _ (λ p. either-passed s p (needsDane s) (needsMtaSts b) (mtaStsPasses b p))))
       (either-verdict 2)
 

@@ -13,7 +13,7 @@ use Rattle.certificates.specs.Facts.{Presented}
 use Rattle.hosts.specs.Facts.{Base, Handshake, Place, first, second, Fact, tlsa, starttls, handshake, certificates, Full}
 use Rattle.hosts.specs.Facts as F
 use Rattle.hosts.specs.Tree.{Rules, Question, verdict, ask, reached}
-use Rattle.hosts.specs.Rules.{isOld, needsMtaSts, isListed, mtaStsPasses, Taken, nothing, set, needsDane, needsAnything, takenPasses, lastVerdict, afterHandshake, connect, afterAnswer, seek, start, rules}
+use Rattle.hosts.specs.Rules.{isOld, needsMtaSts, isListed, mtaStsPasses, Taken, nothing, set, needsDane, needsAuthentication, needsAnything, takenPasses, lastVerdict, afterHandshake, connect, afterAnswer, seek, start, rules}
 use Rattle.hosts.specs.Demands.{isEstablished}
 use Rattle.hosts.specs.Verdicts.{Tried, tried, searchEnd, isLookupFailure, isLiveEnforce, listsHost, isHandshakeMade, isMadeBelow0303, testsAt, testsOf, is20, is21, is22, is23, tlsaReached, connectionReached, factsReached, asks}
 use Rattle.hosts.proofs.AnswerCases.{authentication-is, by-answer}
@@ -31,8 +31,8 @@ module _ (b : Base) (f : Full) where
   onwards u = starttls ∷ cond (f .offered) (handshake ∷ cond (isEstablished (f .outcome) && ((u || needsMtaSts b) && not (isMadeOld (f .outcome)))) (certificates ∷ []) []) []
 
   module _ (x : Address) where
-    reached-handshake : (s : Taken) (m : Handshake) → reached (afterHandshake b s m) f ≡ asked x (cond (isEstablished m && ((needsDane s || needsMtaSts b) && not (isMadeOld m))) (certificates ∷ []) [])
-    reached-handshake s (F.established version) = go (needsDane s || needsMtaSts b) (isOld version) (λ p. verdict (lastVerdict (needsDane s) (needsMtaSts b) (takenPasses b s p) (mtaStsPasses b p))) (λ p. refl)
+    reached-handshake : (s : Taken) (m : Handshake) → reached (afterHandshake b s m) f ≡ asked x (cond (isEstablished m && ((needsAuthentication b s) && not (isMadeOld m))) (certificates ∷ []) [])
+    reached-handshake s (F.established version) = go (needsAuthentication b s) (isOld version) (λ p. verdict (lastVerdict (needsDane s) (needsMtaSts b) (takenPasses b s p) (mtaStsPasses b p))) (λ p. refl)
       where
         go : (t w : Bool) (k : Presented → Rules) → ((p : Presented) → reached (k p) f ≡ []) → reached (cond t (cond w (verdict 28) (ask 12 certificates k)) (verdict 2)) f ≡ asked x (cond (t && not w) (certificates ∷ []) [])
         go true true k n = refl
@@ -43,7 +43,7 @@ module _ (b : Base) (f : Full) where
     reached-connect : (s : Taken) → reached (connect b s) f ≡ asked x (onwards (needsDane s))
     reached-connect s = go (f .offered) (cond (needsAnything b s) 24 1)
       where
-        go : (o : Bool) (v : ℕ) → (record { number = 10; fact = starttls } ∷ reached (cond o (ask 11 handshake (afterHandshake b s)) (verdict v)) f) ≡ asked x (starttls ∷ cond o (handshake ∷ cond (isEstablished (f .outcome) && ((needsDane s || needsMtaSts b) && not (isMadeOld (f .outcome)))) (certificates ∷ []) []) [])
+        go : (o : Bool) (v : ℕ) → (record { number = 10; fact = starttls } ∷ reached (cond o (ask 11 handshake (afterHandshake b s)) (verdict v)) f) ≡ asked x (starttls ∷ cond o (handshake ∷ cond (isEstablished (f .outcome) && ((needsAuthentication b s) && not (isMadeOld (f .outcome)))) (certificates ∷ []) []) [])
         go true v = rw (reached-handshake s (f .outcome))
         go false v = refl
 

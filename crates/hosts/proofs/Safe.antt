@@ -16,7 +16,7 @@ use Rattle.verdicts.specs.Verdicts.{isDelivery}
 use Rattle.hosts.specs.Facts.{Base, Handshake, established, Place, first, second, tlsa, Full, value}
 use Rattle.hosts.specs.Facts as F
 use Rattle.hosts.specs.Tree.{Rules, Question, verdictOf, reached}
-use Rattle.hosts.specs.Rules.{isOld, needsMtaSts, isListed, mtaStsPasses, Taken, nothing, set, needs, isTls, needsDane, needsAnything, takenPasses, lastVerdict, afterHandshake, connect, domainOf, afterAnswer, seek, start, rules}
+use Rattle.hosts.specs.Rules.{isOld, needsMtaSts, isListed, mtaStsPasses, Taken, nothing, set, needs, isTls, needsDane, needsAuthentication, needsAnything, takenPasses, lastVerdict, afterHandshake, connect, domainOf, afterAnswer, seek, start, rules}
 use Rattle.hosts.specs.Arguments.{Arguments, baseOf}
 use Rattle.hosts.specs.Call.{hostAnswer}
 use Rattle.hosts.specs.Demands.{IsFull, fullOf, answersAt, noneUsable, reachedAnswers}
@@ -58,7 +58,7 @@ module _ (b : Base) (f : Full) where
 
     safe-handshake : (m : Handshake) → SafeWith s (verdictOf (afterHandshake b s m) f)
     unfolding isDelivery
-    safe-handshake (established version) = by-cond (λ (t : Rules). SafeWith s (verdictOf t f)) (needsDane s || needsMtaSts b)
+    safe-handshake (established version) = by-cond (λ (t : Rules). SafeWith s (verdictOf t f)) (needsAuthentication b s)
         (λ e. by-cond (λ (t : Rules). SafeWith s (verdictOf t f)) (isOld version) (λ o h. apart h) (λ o. last-safe (needsDane s) (needsMtaSts b) (takenPasses b s (f .presented)) (mtaStsPasses b (f .presented))))
         (λ e h. let z = neither (needsDane s) (needsMtaSts b) e in (λ x. absurd (z .0 x), λ x. absurd (z .1 x)))
     safe-handshake F.failed = safe-none 25 refl

@@ -15,7 +15,7 @@ use Rattle.hosts.specs.declared.HostAnswer.{HostAnswer}
 use Rattle.hosts.specs.Facts.{Base, Handshake, established, Place, first, second, tlsa, handshake, Full, value}
 use Rattle.hosts.specs.Facts as F
 use Rattle.hosts.specs.Tree.{Rules, verdict, ask, verdictOf, reached}
-use Rattle.hosts.specs.Rules.{isOld, needsMtaSts, isListed, mtaStsPasses, Taken, nothing, set, needs, isTls, needsDane, needsAnything, takenPasses, lastVerdict, afterHandshake, connect, domainOf, afterAnswer, seek, start, rules}
+use Rattle.hosts.specs.Rules.{isOld, needsMtaSts, isListed, mtaStsPasses, Taken, nothing, set, needs, isTls, needsDane, needsAuthentication, needsAnything, takenPasses, lastVerdict, afterHandshake, connect, domainOf, afterAnswer, seek, start, rules}
 use Rattle.hosts.specs.Arguments.{Arguments, baseOf}
 use Rattle.hosts.specs.Call.{hostAnswer}
 use Rattle.hosts.specs.Demands.{IsFull, fullOf, answersAt, isHandshake, isEstablished, hasAddress, noneFailed, noneUsable, noneAtAll, Demand2}
@@ -110,7 +110,7 @@ module _ (b : Base) (f : Full) where
 
     quiet-handshake : (m : Handshake) → Quiet (afterHandshake b s m) false (cond (isEstablished m) (madeAt (isMadeOld m)) (cond (needsAnything b s) 25 1))
     unfolding any
-    quiet-handshake (established version) = quiet-cond (needsDane s || needsMtaSts b) _ _ false _ _ (quiet-cond (isOld version) _ _ false _ _ (refl, refl, refl) (refl, refl, refl)) (refl, refl, refl)
+    quiet-handshake (established version) = quiet-cond (needsAuthentication b s) _ _ false _ _ (quiet-cond (isOld version) _ _ false _ _ (refl, refl, refl) (refl, refl, refl)) (refl, refl, refl)
     quiet-handshake F.failed = (refl, refl, refl)
 
     pub quiet-connect : Quiet (connect b s) (f .offered) (ended (isTls (needs s)) (needsMtaSts b) (f .offered) (isEstablished (f .outcome)) madeOf)

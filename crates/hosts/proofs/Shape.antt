@@ -16,7 +16,7 @@ use Rattle.verdicts.specs.Verdicts.{isDelivery, isNextHost, isVerdict}
 use Rattle.verdicts.proofs.Ranges.{verdict-no-middle, verdict-below}
 use Rattle.hosts.specs.Facts.{Base, Handshake, established, failed, Place, first, second, Facts}
 use Rattle.hosts.specs.Tree.{Rules, verdict, walk, answersRead, final}
-use Rattle.hosts.specs.Rules.{isOld, needsMtaSts, isListed, mtaStsPasses, Taken, nothing, set, needsDane, needsAnything, takenPasses, lastVerdict, afterHandshake, connect, domainOf, seek, start, rules}
+use Rattle.hosts.specs.Rules.{isOld, needsMtaSts, isListed, mtaStsPasses, Taken, nothing, set, needsDane, needsAuthentication, needsAnything, takenPasses, lastVerdict, afterHandshake, connect, domainOf, seek, start, rules}
 use Rattle.hosts.specs.Demands.{isRefusal}
 use Rattle.lists.proofs.Bools.{apart, and-left, and-right, by-cond}
 use borrow.Author.Tests.{not-true, leb-true}
@@ -69,7 +69,7 @@ module _ (b : Base) where
   sought-connect s = (refl, λ o. by-cond Sought o (λ e. (refl, sought-handshake)) (λ e. sought-cond (needsAnything b s) 24 1 refl refl))
     where
       sought-handshake : (m : Handshake) → Sought (afterHandshake b s m)
-      sought-handshake (established version) = by-cond Sought (needsDane s || needsMtaSts b) (λ e. by-cond Sought (isOld version) (λ o. refl) (λ o. (refl, λ p. last-sought (needsDane s) (needsMtaSts b) (takenPasses b s p) (mtaStsPasses b p)))) (λ e. refl)
+      sought-handshake (established version) = by-cond Sought (needsAuthentication b s) (λ e. by-cond Sought (isOld version) (λ o. refl) (λ o. (refl, λ p. last-sought (needsDane s) (needsMtaSts b) (takenPasses b s p) (mtaStsPasses b p)))) (λ e. refl)
       sought-handshake failed = sought-cond (needsAnything b s) 25 1 refl refl
 
   question-is : (n : TlsaName) → isQuestion (questionOf n) ≡ true
@@ -91,7 +91,7 @@ module _ (b : Base) where
   most-connect s n = (n, omega arith, λ x. most-cond x _ _ n (n, omega arith, most-handshake) tt)
     where
       most-handshake : (m : Handshake) → Most (afterHandshake b s m) n
-      most-handshake (established version) = most-cond (needsDane s || needsMtaSts b) _ _ n (most-cond (isOld version) _ _ n tt (n, omega arith, λ p. tt)) tt
+      most-handshake (established version) = most-cond (needsAuthentication b s) _ _ n (most-cond (isOld version) _ _ n tt (n, omega arith, λ p. tt)) tt
       most-handshake failed = tt
 
   most-seek : (p : Place) (ns : List TlsaName) → Most (seek b p ns) (length ns)

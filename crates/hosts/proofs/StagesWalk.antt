@@ -30,7 +30,7 @@ use Rattle.hosts.specs.declared.Stage.the-variants as S
 use Rattle.hosts.specs.declared.Connection.the-variants as C
 use Rattle.hosts.specs.Facts.{Base, Handshake, established, failed, Place, first, second, tlsa, certificates, Facts, isGiven, later}
 use Rattle.hosts.specs.Tree.{Rules, verdict, ask, missing, onGiven, walk, answersRead}
-use Rattle.hosts.specs.Rules.{isOld, needsMtaSts, isListed, mtaStsPasses, Taken, nothing, set, needs, isAuthentication, needsDane, takenPasses, lastVerdict, connect, afterAnswer, seek, start, rules}
+use Rattle.hosts.specs.Rules.{isOld, needsMtaSts, isListed, mtaStsPasses, Taken, nothing, set, needs, isAuthentication, needsDane, needsAuthentication, takenPasses, lastVerdict, connect, afterAnswer, seek, start, rules}
 use Rattle.hosts.specs.Arguments.{Arguments, originOf, addressOf, isAlias, lookupOf, offeredOf, outcomeOf, baseOf, presentedIn, factsOf}
 use Rattle.hosts.specs.Call.{outcomeAnswer, walked}
 use Rattle.hosts.specs.Stages.{readGiven, laterGiven, saying, noSet, readStage, hostRead, atHost, expandedRead, atExpanded, triesOf, namesStage, firstStage, handshakeStage, connection, certificateVerdict, ended, foundAnswer, reaching, walkAnswer}
@@ -47,7 +47,7 @@ module _ (b : Base) (s : Taken) (x y : Option Answer) (p : Presented) where
   connect-reads (some false) m t = refl
   connect-reads (some true) none t = refl
   connect-reads (some true) (some failed) t = refl
-  connect-reads (some true) (some (established version)) t = rw (go (needsDane s || needsMtaSts b) (isOld version) t)
+  connect-reads (some true) (some (established version)) t = rw (go (needsAuthentication b s) (isOld version) t)
     where
       go : (k w t : Bool) → answersRead (cond k (cond w (verdict 28) (ask 12 certificates (λ q. verdict (lastVerdict (needsDane s) (needsMtaSts b) (takenPasses b s q) (mtaStsPasses b q))))) (verdict 2)) (facts b x y (some true) (some (established version)) t p) ≡ 0
       go true true t = refl
@@ -63,7 +63,7 @@ module _ (b : Base) (s : Taken) (x y : Option Answer) (p : Presented) where
   connect-is n (some true) none true = refl
   connect-is n (some true) none false = refl
   connect-is n (some true) (some failed) t = refl
-  connect-is n (some true) (some (established version)) t = go (needsDane s || needsMtaSts b) (isOld version) t
+  connect-is n (some true) (some (established version)) t = go (needsAuthentication b s) (isOld version) t
     where
       go : (k w t : Bool) → outcomeAnswer (facts b x y (some true) (some (established version)) t p) n (walk (cond k (cond w (verdict 28) (ask 12 certificates (λ q. verdict (lastVerdict (needsDane s) (needsMtaSts b) (takenPasses b s q) (mtaStsPasses b q))))) (verdict 2)) (facts b x y (some true) (some (established version)) t p)) ≡ ended n (lastVerdict (needsDane s) (needsMtaSts b) (takenPasses b s p) (mtaStsPasses b p)) (cond k (cond w (C.Answered (saying 28 n)) (cond t C.Certificates (C.Answered (saying 12 n)))) (C.Answered (saying 2 n)))
       go true true t = refl

@@ -25,7 +25,7 @@ use Rattle.certificates.specs.Checks.{references, namesReference, recordMatches
 use Rattle.hosts.specs.Facts.{Base, Handshake, established, Place, first, second, tlsa, starttls, handshake, Facts, Full}
 use Rattle.hosts.specs.Facts as F
 use Rattle.hosts.specs.Tree.{Rules, verdict, ask, verdictOf}
-use Rattle.hosts.specs.Rules.{isOld, needsMtaSts, isListed, mtaStsPasses, Taken, nothing, set, needsDane, needsAnything, takenPasses, lastVerdict, authenticate, afterHandshake, connect, afterAnswer, seek, start, rules}
+use Rattle.hosts.specs.Rules.{isOld, needsMtaSts, isListed, mtaStsPasses, Taken, nothing, set, needsDane, needsAuthentication, needsAnything, takenPasses, lastVerdict, authenticate, afterHandshake, connect, afterAnswer, seek, start, rules}
 use Rattle.hosts.specs.Arguments.{isAlias}
 use Rattle.hosts.proofs.Pick.{pick, pick-any, pick-passes, pick-all}
 use Rattle.hosts.proofs.Trees.{fill, before, Two, Differ, Matters}
@@ -136,7 +136,7 @@ module _ (b : Base) where
 
     module _ (listed-ok : needsMtaSts b ≡ true → isListed b ≡ true) where
       matters-authenticate : (s : Taken) → TakenOk s → (version : ℕ) → Matters Ok (authenticate b s version)
-      matters-authenticate s k version = by-cond (Matters Ok) (needsDane s || needsMtaSts b) (λ e. by-cond (Matters Ok) (isOld version) (λ o. tt) (λ o. (
+      matters-authenticate s k version = by-cond (Matters Ok) (needsAuthentication b s) (λ e. by-cond (Matters Ok) (isOld version) (λ o. tt) (λ o. (
         record {
           left = setOf absent false nobody;
           right = setOf absent false (somebody s);
@@ -149,7 +149,7 @@ module _ (b : Base) where
 
       late-authenticate : (s : Taken) (version : ℕ) (f : Full) → late (verdictOf (authenticate b s version) f) ≡ true
       late-authenticate s version f =
-          by-cond (λ (t : Rules). late (verdictOf t f) ≡ true) (needsDane s || needsMtaSts b)
+          by-cond (λ (t : Rules). late (verdictOf t f) ≡ true) (needsAuthentication b s)
           (λ e. by-cond (λ (t : Rules). late (verdictOf t f) ≡ true) (isOld version) (λ o. refl) (λ o. late-last (needsDane s) (needsMtaSts b) (takenPasses b s (f .presented)) (mtaStsPasses b (f .presented))))
           (λ e. refl)
 

@@ -24,7 +24,7 @@ use Rattle.certificates.specs.Checks.{references, danePasses, showsHost}
 use Rattle.hosts.specs.Facts.{HeldPolicy, Base, Handshake, first, second, Full}
 use Rattle.hosts.specs.Facts as F
 use Rattle.hosts.specs.Tree.{Rules, verdict, verdictOf, answersRead}
-use Rattle.hosts.specs.Rules.{isOld, isEnforce, isEnforced, needsMtaSts, patternsOf, isListed, mtaStsPasses, Taken, nothing, set, needsDane, afterHandshake, connect, afterAnswer, seek, start, rules}
+use Rattle.hosts.specs.Rules.{isOld, isEnforce, isEnforced, needsMtaSts, patternsOf, isListed, mtaStsPasses, Taken, nothing, set, needsAuthentication, afterHandshake, connect, afterAnswer, seek, start, rules}
 use Rattle.hosts.specs.Arguments.{Arguments, baseOf}
 use Rattle.hosts.specs.Call.{hostAnswer}
 use Rattle.hosts.specs.Demands.{isEstablished, IsFull, fullOf}
@@ -227,7 +227,7 @@ module _ (b : Base) (f : Full) where
   reads t = answersRead t (full b f)
 
   reads-handshake : (s : Taken) (m : Handshake) → reads (afterHandshake b s m) ≡ 0
-  reads-handshake s (F.established version) = by-cond (λ (t : Rules). reads t ≡ 0) (needsDane s || needsMtaSts b) (λ e. by-cond (λ (t : Rules). reads t ≡ 0) (isOld version) (λ o. refl) (λ o. refl)) (λ e. refl)
+  reads-handshake s (F.established version) = by-cond (λ (t : Rules). reads t ≡ 0) (needsAuthentication b s) (λ e. by-cond (λ (t : Rules). reads t ≡ 0) (isOld version) (λ o. refl) (λ o. refl)) (λ e. refl)
   reads-handshake s F.failed = refl
 
   reads-connect : (s : Taken) → reads (connect b s) ≡ 0

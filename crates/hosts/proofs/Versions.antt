@@ -21,7 +21,7 @@ use Rattle.certificates.specs.Facts.{Presented}
 use Rattle.hosts.specs.declared.HostAnswer.{HostAnswer}
 use Rattle.hosts.specs.Facts.{Base, established, Place, first, second, Fact, Value, tlsa, starttls, handshake, certificates, Facts, given, later}
 use Rattle.hosts.specs.Tree.{Rules, verdict, ask, Outcome, final, missing, onGiven, walk, isTlsa, answersRead}
-use Rattle.hosts.specs.Rules.{needsMtaSts, isListed, mtaStsPasses, Taken, nothing, set, needsDane, needsAnything, takenPasses, lastVerdict, isOld, afterHandshake, connect, afterAnswer, seek, start, rules}
+use Rattle.hosts.specs.Rules.{needsMtaSts, isListed, mtaStsPasses, Taken, nothing, set, needsDane, needsAuthentication, needsAnything, takenPasses, lastVerdict, isOld, afterHandshake, connect, afterAnswer, seek, start, rules}
 use Rattle.hosts.specs.Arguments.{Arguments, argumentsOf, baseOf, presentedIn, factsOf}
 use Rattle.hosts.specs.Call.{codesFit, clocksFit, nextHopsFit, hostNamesFit, policyFits, answersFit, certificatesFit, checks, refused, checked, outcomeAnswer, walked, hostAnswer}
 use Rattle.hosts.specs.Verdicts.{Tests, daneNeeded, mtaStsNeeded, encrypts, is3, is4, is5, is26, is27, is28}
@@ -70,7 +70,7 @@ abbrev aged : Outcome → Outcome
 aged (final n) = cond (isByAuthentication n) (final 28) (final n)
 aged (missing q) = cond (isByAuthentication (q .number)) (final 28) (missing q)
 
--- a choice of one
+-- where both choices are the same
 either-way : {A : Type 0} (w : Bool) (x : A) → x ≡ cond w x x
 either-way true x = refl
 either-way false x = refl
@@ -129,7 +129,7 @@ module _ (b : Base) (g : Facts) (version : ℕ) (w : Bool) (old : isOld version 
     abbrev asked : Rules
     asked = ask 12 certificates (λ p. verdict (lastVerdict (needsDane s) (needsMtaSts b) (takenPasses b s p) (mtaStsPasses b p)))
 
-    decided : (k w : Bool) (o : Option Presented) → (needsDane s || needsMtaSts b) ≡ k → walk (cond k (cond w (verdict 28) asked) (verdict 2)) (atWith o version) ≡ cond w (aged (walk (cond k asked (verdict 2)) (atWith o 771))) (walk (cond k asked (verdict 2)) (atWith o 771))
+    decided : (k w : Bool) (o : Option Presented) → (needsAuthentication b s) ≡ k → walk (cond k (cond w (verdict 28) asked) (verdict 2)) (atWith o version) ≡ cond w (aged (walk (cond k asked (verdict 2)) (atWith o 771))) (walk (cond k asked (verdict 2)) (atWith o 771))
     decided true true none e = refl
     decided true true (some p) e = rw (last-decided (needsDane s) (needsMtaSts b) (takenPasses b s p) (mtaStsPasses b p) e)
     decided true false none e = refl
@@ -153,13 +153,13 @@ module _ (b : Base) (g : Facts) (version : ℕ) (w : Bool) (old : isOld version 
 
     -- after a handshake at an old version or not
     abbrev after : Bool → Rules
-    after t = cond (needsDane s || needsMtaSts b) (cond t (verdict 28) asked) (verdict 2)
+    after t = cond (needsAuthentication b s) (cond t (verdict 28) asked) (verdict 2)
 
     aged-handshake : Aged (ask 11 handshake (afterHandshake b s))
     aged-handshake = record {
-      walks = ap (λ (t : Bool). walk (after t) (at version)) old ∙ decided (needsDane s || needsMtaSts b) w (g .presented) refl ∙ sym (ap (λ (t : Bool). cond w (aged (walk (after t) (at 771))) (walk (after t) (at 771))) not-old);
-      reads = ap (λ (c : ℕ). 0 + c) (read-none (needsDane s || needsMtaSts b) (isOld version) (g .presented) version ∙ sym (read-none (needsDane s || needsMtaSts b) (isOld 771) (g .presented) 771));
-      asks = subst (λ (t : Bool). AsksLast (walk (after t) (at 771))) (sym not-old) (last-asked (needsDane s || needsMtaSts b) (g .presented));
+      walks = ap (λ (t : Bool). walk (after t) (at version)) old ∙ decided (needsAuthentication b s) w (g .presented) refl ∙ sym (ap (λ (t : Bool). cond w (aged (walk (after t) (at 771))) (walk (after t) (at 771))) not-old);
+      reads = ap (λ (c : ℕ). 0 + c) (read-none (needsAuthentication b s) (isOld version) (g .presented) version ∙ sym (read-none (needsAuthentication b s) (isOld 771) (g .presented) 771));
+      asks = subst (λ (t : Bool). AsksLast (walk (after t) (at 771))) (sym not-old) (last-asked (needsAuthentication b s) (g .presented));
     }
 
     aged-needed : (n : ℕ) → isByAuthentication n ≡ false → Aged (verdict (cond (needsAnything b s) n 1))

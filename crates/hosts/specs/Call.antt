@@ -15,6 +15,7 @@ use Rattle.certificates.specs.Limits.{yesNo, factsFit}
 use Rattle.certificates.specs.declared.Origin.{Origin}
 use Rattle.certificates.specs.declared.Origin.the-variants.{SecureMx, InsecureMx, NoMx}
 use Rattle.hosts.specs.declared.HostAnswer.{HostAnswer}
+use Rattle.hosts.specs.declared.Numbers.{Numbers}
 use Rattle.hosts.specs.Facts.{Facts, later}
 use Rattle.hosts.specs.Tree.{Outcome, final, missing, walk, answersRead}
 use Rattle.hosts.specs.Rules.{rules}
@@ -23,6 +24,10 @@ use Rattle.hosts.specs.Arguments.{Arguments, originOf, addressOf, isAlia
 -- a test that is asked only of what is supplied
 abbrev pub ifSupplied : Bool → Bool → Bool
 ifSupplied supplied test = not supplied || test
+
+-- the version of an established handshake has two bytes
+abbrev pub versionFits : Numbers → Bool
+versionFits n = ifSupplied (eqb (n .handshake) 1) (leb (n .«tls_version») 65535)
 
 -- 67: every input code and yes/no number that is supplied is one of its named choices, there are at most two TLSA answers, and the version of an established handshake has two bytes
 unfoldable pub codesFit : Arguments → Bool
@@ -36,7 +41,7 @@ codesFit a =
     && ifSupplied (leb 2 (a .numbers .«tlsa_answers»)) (within 1 4 (a .numbers .«tlsa2_result»))
     && leb (a .numbers .starttls) 2
     && leb (a .numbers .handshake) 2
-    && ifSupplied (eqb (a .numbers .handshake) 1) (leb (a .numbers .«tls_version») 65535)
+    && versionFits (a .numbers)
     && leb (a .numbers .«certificates_given») 1
     && ifSupplied (eqb (a .numbers .«certificates_given») 1)
     (all yesNo (numbers (a .paths)) && yesNo (a .numbers .«trusted_root») && yesNo (a .numbers .«common_name_given»))

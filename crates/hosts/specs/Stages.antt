@@ -38,7 +38,7 @@ use Rattle.hosts.specs.declared.Connection.the-variants as C
 use Rattle.hosts.specs.Facts.{Handshake, established, failed, isGiven}
 use Rattle.hosts.specs.Rules.{isAuthentication, isTls, isOld, lastVerdict}
 use Rattle.hosts.specs.Arguments.{Arguments, argumentsOf, originOf, addressOf, lookupOf, offeredOf, outcomeOf}
-use Rattle.hosts.specs.Call.{ifSupplied, codesFit, clocksFit, nextHopsFit, hostNamesFit, answersFit, certificatesFit, refused}
+use Rattle.hosts.specs.Call.{ifSupplied, versionFits, codesFit, clocksFit, nextHopsFit, hostNamesFit, answersFit, certificatesFit, refused}
 
 -- the argument checks
 
@@ -53,7 +53,7 @@ laterCodesFit n =
     && ifSupplied (leb 2 (n .«tlsa_answers»)) (within 1 4 (n .«tlsa2_result»))
     && leb (n .starttls) 2
     && leb (n .handshake) 2
-    && ifSupplied (eqb (n .handshake) 1) (leb (n .«tls_version») 65535)
+    && versionFits n
     && leb (n .«certificates_given») 1
 
 -- the yes/no numbers of certificate facts
