@@ -30,6 +30,8 @@ SECONDS ?= 60
 
 ARCHIVE = target/staticlib/libtweedstork.a
 OUT = target/c
+# Real certificates, for a test: those of Debian's package ca-certificates.
+AUTHORITIES ?= /etc/ssl/certs/ca-certificates.crt
 
 .PHONY: all run test c-tests bench fuzz install uninstall clean toolchain archive examples
 all: archive
@@ -49,12 +51,15 @@ archive: toolchain
 examples: archive
 	@$(CC) $(CFLAGS) $(WARNINGS) -Iinclude examples/discover.c $(ARCHIVE) -o $(OUT)/discover
 	@$(CC) $(CFLAGS) $(WARNINGS) -Iinclude examples/publish.c $(ARCHIVE) -o $(OUT)/publish
+	@$(CC) $(CFLAGS) $(WARNINGS) -Iinclude examples/certificate.c $(ARCHIVE) -o $(OUT)/certificate
 	@$(CC) $(CFLAGS) $(WARNINGS) -Iinclude examples/relay.c examples/scenario.c $(ARCHIVE) -o $(OUT)/relay
 
 run: examples
 	@echo; $(OUT)/discover examples/domain/records.txt examples/domain/policy.txt
 	@echo; $(OUT)/discover examples/domain/records.txt examples/domain/wrong-policy.txt || [ $$? -eq 1 ]
 	@echo; $(OUT)/publish --id 20160831085700Z enforce 604800 mail.example.com '*.example.net' backupmx.example.com
+	@echo; $(OUT)/certificate examples/certificates/leaf.pem
+	@echo; $(OUT)/certificate examples/certificates/split-names.pem || [ $$? -eq 1 ]
 	@echo; $(OUT)/relay examples/scenarios/*.txt
 
 # The proofs, the must-fail edits and the cases first, since the archive is then built of what they proved; then the tests in C
@@ -81,10 +86,18 @@ c-tests: examples
 	$(OUT)/cache
 	@$(CC) $(CFLAGS) $(WARNINGS) $(SANITIZERS) -Iinclude tests/publish.c $(ARCHIVE) -o $(OUT)/publishing
 	$(OUT)/publishing
-	@if pkg-config --exists 'openssl >= 3'; then echo $(OUT)/openssl; \
+	@$(CC) $(CFLAGS) $(WARNINGS) $(SANITIZERS) -Iinclude tests/reader.c $(ARCHIVE) -o $(OUT)/reader
+	$(OUT)/reader
+	@$(CC) $(CFLAGS) $(WARNINGS) $(SANITIZERS) -Iinclude tests/leaf.c $(ARCHIVE) -o $(OUT)/leaf
+	$(OUT)/leaf
+	@if pkg-config --exists 'openssl >= 3'; then \
+	    echo $(OUT)/real-certificates $(AUTHORITIES); \
+	    $(CC) $(CFLAGS) $(WARNINGS) $(SANITIZERS) -Iinclude tests/real-certificates.c $(ARCHIVE) \
+	        $$(pkg-config --cflags --libs openssl) -o $(OUT)/real-certificates && $(OUT)/real-certificates $(AUTHORITIES) || exit 1; \
+	    echo $(OUT)/openssl; \
 	    $(CC) $(CFLAGS) $(WARNINGS) $(SANITIZERS) -Iinclude tests/openssl.c examples/openssl.c $(ARCHIVE) \
 	        $$(pkg-config --cflags --libs openssl) -o $(OUT)/openssl && $(OUT)/openssl; \
-	else echo "openssl: left out, since OpenSSL 3's headers are missing (Debian's package libssl-dev)"; fi
+	else echo "openssl, real-certificates: left out, since OpenSSL 3's headers are missing (Debian's package libssl-dev)"; fi
 	tests/examples.sh $(OUT)
 	CC='$(CC)' CXX='$(CXX)' tests/install.sh $(ARCHIVE)
 	tests/independent/run target/staticlib $(OUT)/independent

@@ -13,7 +13,8 @@
 #include "measure.h"
 
 /* The house's promise on stack, on every input. */
-enum { PROMISED_STACK = 16 * 1024 };
+/* Twice as much where a call gathers the names of a leaf. */
+enum { PROMISED_STACK = 16 * 1024, PROMISED_STACK_BY_LEAF = 2 * PROMISED_STACK };
 
 /* The house's promises on instructions against plain C's: on an input the last that fits it, so all but the first are exceptions. */
 static const struct promise {
@@ -31,11 +32,26 @@ static const struct promise {
      "a pattern's letters take 10 instructions each, and 6 in plain C; short texts are copied byte by byte, in plain C by the C library's `memcpy`. A policy is written when it changes, not for a message"},
     {PUBLISHING, measured_rewriting, 2.0, "a policy written anew into an output of just its length",
      "the mx lines are measured first, in a pass of their own; an output of `TWEEDSTORK_WRITE_POLICY_ROOM` bytes needs none"},
+    {READING, NULL, 1.5, "reading a leaf", "a leaf of the usual shape is read at sight, and its DNS-IDs are met once more to count them and once to write their places; plain C keeps them in an array as it meets them"},
+    {READING, refused_at_the_first_byte, 4.0, "a leaf that is refused at its first byte", "an answer of nine numbers is written and two functions are entered; plain C takes 69 instructions"},
+    {READING, refused_at_the_last_element, 2.5, "a leaf that is refused at its last element", "what is not of the usual shape is walked from its front, so that the fault is the first by the definition's own order"},
+    {LEAF_DNS_IDS, NULL, 1.5, "DNS-IDs of a leaf that is read", "as with reading a leaf"},
+    {LEAF_BYTES, NULL, 1.5, "bytes of a leaf that is read", "as with reading a leaf"},
+    {LEAF_READ, NULL, 1.5, "a host by its leaf", "as with reading a leaf; the names are gathered one after another, as the plain call takes them"},
+    {LEAF_READ, many_dns_ids_by_leaf, 1.6, "a host by a leaf of 5 KB", "room for 16,384 bytes of names is cleared; for a leaf of up to 2,000 bytes it is 2,000"},
+    {NAMES_GIVEN, NULL, 1.35, "the same hosts by the names that the relay gives", "the two calls on a host share their code, to which 32 arguments are handed on in memory: about 160 instructions a call"},
+    {CALLS, one_usage_3_record, 1.3, "a host with one record", "as above"},
+    {CALLS, one_usage_2_record, 1.3, "a host with one record of usage 2", "as above"},
+    {CALLS, one_usage_2_record_expanded, 1.3, "a host that the expanded next-hop names", "as above"},
+    {LAST_RECORD_MATCHES, NULL, 1.2, "TLSA records of which the last matches", "as above"},
+    {CERTIFICATES, NULL, 1.3, "certificates of a host", "as above"},
+    {DECISIONS, NULL, 1.4, "decisions", "as above, four or five calls each"},
     {DNS_IDS, NULL, 1.3, "DNS-IDs as long as the host's name",
      "that the host is a name is tested once more where a DNS-ID equals it, and its first label where a pattern with a star matches it: each crate promises its answer for every text"},
-    {OTHER_DNS_IDS, NULL, 1.3, "DNS-IDs of another length", "held against two references, a name takes 52 instructions, plain C's 47, since the library clips it at the end of the bytes once more; the rest of the call takes 1,156 and 1,033"},
-    {CALLS, certificates_beside_old_tls, 1.2, "certificates beside old TLS", "they are checked and held against nothing, so that the checks are all there is to count; where they are held against records, the library takes less for that than plain C. A relay has no need to give them there"},
-    {DECISIONS, mta_sts_decision, 1.3, "the decision by MTA-STS", "as with DNS-IDs: four calls hold a pattern against the host, one a DNS-ID"},
+    {OTHER_DNS_IDS, NULL, 1.3, "DNS-IDs of another length", "held against two references, a name takes 52 instructions, plain C's 46, since the library clips it at the end of the bytes once more; the rest of the call takes 1,156 and 1,055"},
+    {CALLS, certificates_beside_old_tls, 1.3, "certificates beside old TLS", "they are checked and held against nothing, so that the checks are all there is to count; where they are held against records, the library takes less for that than plain C. A relay has no need to give them there"},
+    {DECISIONS, dane_decision_by_leaf, 1.5, "the decision by DANE, leaf read", "as with reading a leaf"},
+    {DECISIONS, mta_sts_decision_by_leaf, 1.5, "the decision by MTA-STS, leaf read", "as with reading a leaf"},
     {HOSTS, NULL, 1.5, "hosts of a message",
      "the form of that walk is fixed, arrays of 32 by value with a count: the library reads the lists into arrays and walks those, plain C walks the lists themselves"},
     {DECISIONS, whole_certificate_decision, 1.5, "the decision with a whole certificate (record 3 0 0 of 1.5 KB)",
@@ -61,6 +77,9 @@ static const struct {
     [CALLS] = {"## Single calls", "Input"},
     [CACHE] = {"## Single calls for a policy cache (alike: domains of one length that differ in their 5th and 6th byte alone)", "Cache"},
     [PUBLISHING] = {"## Single calls for publishing", "Publishing"},
+    [READING] = {"## Single calls that read a leaf certificate", "Leaf"},
+    [LEAF_READ] = {"## Single calls that judge a host by its leaf certificate, 3 certificates", "Host, leaf read"},
+    [NAMES_GIVEN] = {"## The same hosts by the names that the relay gives", "Host, names given"},
     [DECISIONS] = {"## Whole decisions: every call, from the first question to the verdict", "Decision"},
     [LAST_RECORD_MATCHES] = {"### TLSA records 2 1 1, 8 certificates, the last record matches the last certificate", "Records, the last matches"},
     [NO_RECORD_MATCHES] = {"### TLSA records 2 1 1, 8 certificates, none matches", "Records, none matches"},
@@ -69,6 +88,8 @@ static const struct {
     [TXT_BYTES] = {"### Bytes of a TXT record, fields of 32 bytes", "Bytes of a TXT record"},
     [DNS_IDS] = {"### DNS-IDs as long as the host's name and with the same end, a host with a policy of 63 bytes; the last is the host", "DNS-IDs"},
     [OTHER_DNS_IDS] = {"### DNS-IDs of another length than the two references, a record 2 1 1 that matches; none is a reference", "DNS-IDs of another length"},
+    [LEAF_DNS_IDS] = {"### DNS-IDs of 16 bytes in a leaf that is read", "DNS-IDs read"},
+    [LEAF_BYTES] = {"### Bytes of a leaf that is read, extensions of 40 bytes", "Bytes of a leaf"},
     [HOSTS] = {"### Hosts of a message; the one that decides is the last to be looked at", "Hosts"},
 };
 
@@ -289,7 +310,8 @@ static void print_stack(const struct results *r)
 {
     static const char *const names[] = {[READ_TXT] = "tweedstork_read_txt", [READ_POLICY] = "tweedstork_read_policy",
         [CACHE_STORE] = "tweedstork_cache_store", [CACHE_LOOKUP] = "tweedstork_cache_lookup",
-        [JUDGE_HOST] = "tweedstork_judge_host", [NEXT_HOST] = "tweedstork_next_host",
+        [JUDGE_HOST] = "tweedstork_judge_host", [READ_CERTIFICATE] = "tweedstork_read_certificate",
+        [JUDGE_HOST_CERTIFICATE] = "tweedstork_judge_host_certificate", [NEXT_HOST] = "tweedstork_next_host",
         [WRITE_TXT] = "tweedstork_write_txt", [WRITE_POLICY] = "tweedstork_write_policy", [REWRITE_POLICY] = "tweedstork_rewrite_policy"};
 
     printf("\n## Stack of the library's calls\n\n| Call | most bytes of stack on any of these inputs |\n|---|--:|\n");
@@ -345,6 +367,9 @@ static void print_results(const struct results *r)
     print_table(r, CALLS);
     print_table(r, CACHE);
     print_table(r, PUBLISHING);
+    print_table(r, READING);
+    print_table(r, LEAF_READ);
+    print_table(r, NAMES_GIVEN);
     print_table(r, DECISIONS);
     print_decisions(r);
     printf("\n## Growth\n");
@@ -375,8 +400,9 @@ static int keeps_promises(const struct results *r)
         double found = ratio(r, i, PLAIN_C), promised = promise_on(input)->ratio;
         if (found > promised)
             say_broken(&broken, input, found, "times plain C's instructions", promised);
-        if (r->stack[i] > PROMISED_STACK)
-            say_broken(&broken, input, (double)r->stack[i], "bytes of stack", PROMISED_STACK);
+        size_t room = input->call == JUDGE_HOST_CERTIFICATE ? PROMISED_STACK_BY_LEAF : PROMISED_STACK;
+        if (r->stack[i] > room)
+            say_broken(&broken, input, (double)r->stack[i], "bytes of stack", (double)room);
     }
     if (broken != 0)
         fprintf(stderr, "\n");

@@ -8,12 +8,12 @@
 #include "plain.h"
 
 const struct implementation implementations[IMPLEMENTATIONS] = {
-    {"library", tweedstork_read_txt, tweedstork_read_policy, tweedstork_cache_store, tweedstork_cache_lookup, tweedstork_judge_host, tweedstork_next_host,
-     tweedstork_write_txt, tweedstork_write_policy, tweedstork_rewrite_policy},
-    {"C", plain_read_txt, plain_read_policy, plain_cache_store, plain_cache_lookup, plain_judge_host, plain_next_host,
-     plain_write_txt, plain_write_policy, plain_rewrite_policy},
-    {"Rust", independent_read_txt, independent_read_policy, independent_cache_store, independent_cache_lookup, independent_judge_host, independent_next_host,
-     independent_write_txt, independent_write_policy, independent_rewrite_policy},
+    {"library", tweedstork_read_txt, tweedstork_read_policy, tweedstork_cache_store, tweedstork_cache_lookup, tweedstork_judge_host,
+     tweedstork_read_certificate, tweedstork_judge_host_certificate, tweedstork_next_host, tweedstork_write_txt, tweedstork_write_policy, tweedstork_rewrite_policy},
+    {"C", plain_read_txt, plain_read_policy, plain_cache_store, plain_cache_lookup, plain_judge_host,
+     plain_read_certificate, plain_judge_host_certificate, plain_next_host, plain_write_txt, plain_write_policy, plain_rewrite_policy},
+    {"Rust", independent_read_txt, independent_read_policy, independent_cache_store, independent_cache_lookup, independent_judge_host,
+     independent_read_certificate, independent_judge_host_certificate, independent_next_host, independent_write_txt, independent_write_policy, independent_rewrite_policy},
 };
 
 static struct answer call_judge_host(const struct implementation *implementation, const struct facts *f)
@@ -32,6 +32,22 @@ static struct answer call_judge_host(const struct implementation *implementation
     return (struct answer){{a.number, a.tlsa_questions}};
 }
 
+/* The leaf's place of the key and its names are not given. Not inlined, as below: its arguments are many. */
+__attribute__((noinline)) static struct answer call_judge_host_certificate(const struct implementation *implementation, const struct facts *f)
+{
+    size_t leaf_place = f->key_places.length < 8 ? 0 : 8;
+    struct tweedstork_host_answer a = implementation->judge_host_certificate(
+        f->clock, f->next_hop.at, f->next_hop.length, f->expanded_next_hop_given, f->expanded_next_hop.at, f->expanded_next_hop.length,
+        f->origin, f->host.at, f->host.length, f->address, f->expanded.at, f->expanded.length, f->policy_given, f->policy.at, f->policy.length, f->fetched, f->tlsa_answers,
+        f->tlsa[0].result, f->tlsa[0].lengths.at, f->tlsa[0].lengths.length, f->tlsa[0].records.at, f->tlsa[0].records.length,
+        f->tlsa[1].result, f->tlsa[1].lengths.at, f->tlsa[1].lengths.length, f->tlsa[1].records.at, f->tlsa[1].records.length,
+        f->starttls, f->handshake, f->tls_version, f->certificates_given, f->certificates.at, f->certificates.length,
+        f->certificate_lengths.at, f->certificate_lengths.length, f->key_places.at + leaf_place, f->key_places.length - leaf_place,
+        f->digests.at, f->digests.length, f->paths.at, f->paths.length, f->trusted_root);
+
+    return (struct answer){{a.number, a.tlsa_questions}};
+}
+
 /* What the store before wrote is put back first, so that every store has the same to do. Callgrind counts inside the call alone. */
 static struct answer call_cache_store(const struct implementation *implementation, const struct cache_call *c)
 {
@@ -46,13 +62,24 @@ static struct answer call_cache_store(const struct implementation *implementatio
     return (struct answer){{a.number, a.length}};
 }
 
-/* Not inlined: its answer, the longest of all, is no part of the stack that is measured for the other calls. */
+/* Not inlined: its answer, longer than most, is no part of the stack that is measured for the other calls. */
 __attribute__((noinline)) static struct answer call_cache_lookup(const struct implementation *implementation, const struct cache_call *c, struct bytes output)
 {
     struct tweedstork_cache_answer a = implementation->cache_lookup(
         c->clock, c->domain.at, c->domain.length, c->lent->table, TWEEDSTORK_CACHE_ENTRIES, c->lent->texts, sizeof c->lent->texts);
 
     memcpy(output.at, &a, sizeof a);
+    return (struct answer){{a.number}};
+}
+
+/* Not inlined, as above. */
+__attribute__((noinline)) static struct answer call_read_certificate(const struct implementation *implementation, const struct input *input)
+{
+    struct bytes certificate = input->first, output = input->output;
+    size_t places = output.length - sizeof(struct tweedstork_certificate_answer);
+    struct tweedstork_certificate_answer a = implementation->read_certificate(certificate.at, certificate.length, output.at, places);
+
+    memcpy(output.at + places, &a, sizeof a);
     return (struct answer){{a.number}};
 }
 
@@ -96,6 +123,10 @@ struct answer make_call(const struct implementation *implementation, const struc
     case WRITE_POLICY:
     case REWRITE_POLICY:
         return call_publishing(implementation, input);
+    case READ_CERTIFICATE:
+        return call_read_certificate(implementation, input);
+    case JUDGE_HOST_CERTIFICATE:
+        return call_judge_host_certificate(implementation, &input->facts[step]);
     case JUDGE_HOST:
         break;
     }

@@ -12,6 +12,8 @@ struct implementation {
     __typeof__(tweedstork_cache_store) *cache_store;
     __typeof__(tweedstork_cache_lookup) *cache_lookup;
     __typeof__(tweedstork_judge_host) *judge_host;
+    __typeof__(tweedstork_read_certificate) *read_certificate;
+    __typeof__(tweedstork_judge_host_certificate) *judge_host_certificate;
     __typeof__(tweedstork_next_host) *next_host;
     __typeof__(tweedstork_write_txt) *write_txt;
     __typeof__(tweedstork_write_policy) *write_policy;

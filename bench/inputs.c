@@ -709,11 +709,14 @@ static struct facts *add_host(struct inputs *inputs, enum table table, const cha
     return &input->facts[0];
 }
 
+const char one_usage_3_record[] = "host, 1 TLSA record 3 1 1, 8 certificates";
+const char one_usage_2_record[] = "host, 1 TLSA record 2 1 1, 8 certificates";
+const char one_usage_2_record_expanded[] = "host, 1 TLSA record 2 1 1, 8 certificates, named by the expanded next-hop";
 const char certificates_beside_old_tls[] = "host, 1 TLSA record 3 1 1, 8 certificates, TLS 1.0";
 
 static void add_single_hosts(struct inputs *inputs)
 {
-    struct facts *f = add_host(inputs, CALLS, "host, 1 TLSA record 3 1 1, 8 certificates", 8, TWEEDSTORK_DANE, 1);
+    struct facts *f = add_host(inputs, CALLS, one_usage_3_record, 8, TWEEDSTORK_DANE, 1);
 
     give_records(f, 1, 3);
     match(f, 0, 0);
@@ -724,10 +727,10 @@ static void add_single_hosts(struct inputs *inputs)
     f = add_host(inputs, CALLS, "host, 32 TLSA records 3 1 1, 8 certificates", 8, TWEEDSTORK_DANE, 1);
     give_records(f, 32, 3);
     match(f, 31, 0);
-    f = add_host(inputs, CALLS, "host, 1 TLSA record 2 1 1, 8 certificates", 8, TWEEDSTORK_DANE, 1);
+    f = add_host(inputs, CALLS, one_usage_2_record, 8, TWEEDSTORK_DANE, 1);
     give_records(f, 1, 2);
     match(f, 0, 7);
-    f = add_host(inputs, CALLS, "host, 1 TLSA record 2 1 1, 8 certificates, named by the expanded next-hop", 8, TWEEDSTORK_DANE, 1);
+    f = add_host(inputs, CALLS, one_usage_2_record_expanded, 8, TWEEDSTORK_DANE, 1);
     give_records(f, 1, 2);
     match(f, 0, 7);
     give_alias(f);
@@ -742,6 +745,365 @@ static void add_single_hosts(struct inputs *inputs)
     give_mx_policy(f, 65536, "mailbox.example.com");
     f = add_host(inputs, CALLS, "host, policy of 64 KiB, mx lines of another length, the last is the host", 3, TWEEDSTORK_MTA_STS, 0);
     give_mx_policy(f, 65536, "mail.example.com");
+}
+
+/* ---- leaf certificates ---- */
+
+enum {
+    BOOLEAN = 0x01, INTEGER = 0x02, BIT_STRING = 0x03, OCTET_STRING = 0x04, NO_VALUE = 0x05, IDENTIFIER = 0x06, UTF8_STRING = 0x0c,
+    PRINTABLE_STRING = 0x13, UTC_TIME = 0x17, SEQUENCE = 0x30, SET = 0x31, KEY_IDENTIFIER = 0x80, DNS_NAME = 0x82, URI = 0x86,
+    EXPLICIT_0 = 0xa0, EXPLICIT_3 = 0xa3
+};
+
+/* The contents of object identifiers. */
+#define COMMON_NAME "\x55\x04\x03"
+#define COUNTRY "\x55\x04\x06"
+#define LOCALITY "\x55\x04\x07"
+#define PROVINCE "\x55\x04\x08"
+#define ORGANIZATION "\x55\x04\x0a"
+#define KEY_USAGE "\x55\x1d\x0f"
+#define EXTENDED_KEY_USAGE "\x55\x1d\x25"
+#define SERVER_AUTHENTICATION "\x2b\x06\x01\x05\x05\x07\x03\x01"
+#define CLIENT_AUTHENTICATION "\x2b\x06\x01\x05\x05\x07\x03\x02"
+#define BASIC_CONSTRAINTS "\x55\x1d\x13"
+#define SUBJECT_KEY "\x55\x1d\x0e"
+#define AUTHORITY_KEY "\x55\x1d\x23"
+#define AUTHORITY_ACCESS "\x2b\x06\x01\x05\x05\x07\x01\x01"
+#define OCSP "\x2b\x06\x01\x05\x05\x07\x30\x01"
+#define ISSUERS "\x2b\x06\x01\x05\x05\x07\x30\x02"
+#define SUBJECT_ALT_NAME "\x55\x1d\x11"
+#define POLICIES "\x55\x1d\x20"
+#define DOMAIN_VALIDATED "\x67\x81\x0c\x01\x02\x01"
+#define REVOCATION_LISTS "\x55\x1d\x1f"
+#define SIGNED_TIMESTAMPS "\x2b\x06\x01\x04\x01\xd6\x79\x02\x04\x02"
+#define FURTHER_EXTENSION "\x2b\x06\x01\x04\x01\x82\x37\x15\x07"
+#define CURVE_KEY "\x2a\x86\x48\xce\x3d\x02\x01"
+#define P_256 "\x2a\x86\x48\xce\x3d\x03\x01\x07"
+#define ECDSA_SHA256 "\x2a\x86\x48\xce\x3d\x04\x03\x02"
+#define RSA_KEY "\x2a\x86\x48\x86\xf7\x0d\x01\x01\x01"
+#define RSA_SHA256 "\x2a\x86\x48\x86\xf7\x0d\x01\x01\x0b"
+
+/* An element of DER with up to 65,535 bytes of contents. */
+static struct bytes element(uint8_t tag, struct bytes contents)
+{
+    size_t length = contents.length;
+    struct bytes header = room(length < 0x80 ? 2 : length < 0x100 ? 3 : 4);
+
+    header.at[0] = tag;
+    if (header.length > 2)
+        header.at[1] = (uint8_t)(0x80 + header.length - 2);
+    if (header.length > 3)
+        header.at[2] = (uint8_t)(length >> 8);
+    header.at[header.length - 1] = (uint8_t)length;
+    return joined(header, contents);
+}
+
+static struct bytes holding(uint8_t tag, const struct bytes *elements, size_t count)
+{
+    struct bytes contents = room(0);
+
+    for (size_t i = 0; i < count; i++)
+        contents = joined(contents, elements[i]);
+    return element(tag, contents);
+}
+#define HOLDING(tag, ...) holding(tag, (const struct bytes[]){__VA_ARGS__}, sizeof (const struct bytes[]){__VA_ARGS__} / sizeof(struct bytes))
+
+/* An element with bytes without a pattern but for the first: of a bit string no bit is left over, and a number is not negative. */
+static struct bytes random_element(uint8_t tag, size_t length)
+{
+    struct bytes contents = room(length);
+
+    scramble(contents, (uint32_t)length);
+    contents.at[0] = tag == BIT_STRING ? 0 : 5;
+    return element(tag, contents);
+}
+
+static struct bytes identifier(const char *contents)
+{
+    return element(IDENTIFIER, text(contents));
+}
+
+static struct bytes attribute(const char *type, uint8_t tag, const char *value)
+{
+    return HOLDING(SET, HOLDING(SEQUENCE, identifier(type), element(tag, text(value))));
+}
+
+static struct bytes extension(const char *type, struct bytes value)
+{
+    return HOLDING(SEQUENCE, identifier(type), element(OCTET_STRING, value));
+}
+
+static struct bytes critical_extension(const char *type, struct bytes value)
+{
+    return HOLDING(SEQUENCE, identifier(type), element(BOOLEAN, text("\xff")), element(OCTET_STRING, value));
+}
+
+/* What differs from leaf to leaf. */
+struct leaf {
+    int is_rsa;           /* the key is RSA's, of 2,048 bits, else of the curve P-256 */
+    struct bytes dns_ids; /* their elements */
+    size_t further;       /* further extensions, of 40 bytes */
+};
+
+static const char leaf_name[] = "mail.example.com";
+
+static struct bytes subject_of(const struct leaf *leaf)
+{
+    struct bytes common_name = attribute(COMMON_NAME, UTF8_STRING, leaf_name);
+
+    if (!leaf->is_rsa)
+        return HOLDING(SEQUENCE, common_name);
+    return HOLDING(SEQUENCE, attribute(COUNTRY, PRINTABLE_STRING, "NL"), attribute(PROVINCE, UTF8_STRING, "Utrecht"),
+                   attribute(LOCALITY, UTF8_STRING, "Utrecht"), attribute(ORGANIZATION, UTF8_STRING, "Example Payments"), common_name);
+}
+
+static struct bytes key_info_of(const struct leaf *leaf)
+{
+    if (leaf->is_rsa)
+        return HOLDING(SEQUENCE, HOLDING(SEQUENCE, identifier(RSA_KEY), element(NO_VALUE, room(0))), random_element(BIT_STRING, 271));
+    return HOLDING(SEQUENCE, HOLDING(SEQUENCE, identifier(CURVE_KEY), identifier(P_256)), random_element(BIT_STRING, 66));
+}
+
+static struct bytes extensions_of(const struct leaf *leaf)
+{
+    struct bytes ocsp = HOLDING(SEQUENCE, identifier(OCSP), element(URI, text("http://o.ca.example")));
+    struct bytes issuers = HOLDING(SEQUENCE, identifier(ISSUERS), element(URI, text("http://i.ca.example/")));
+    struct bytes list = element(EXPLICIT_0, element(EXPLICIT_0, element(URI, text("http://c.ca.example/57.crl"))));
+    struct bytes further = extension(FURTHER_EXTENSION, random_element(OCTET_STRING, 23));
+
+    return HOLDING(SEQUENCE,
+                   critical_extension(KEY_USAGE, random_element(BIT_STRING, 2)),
+                   extension(EXTENDED_KEY_USAGE, HOLDING(SEQUENCE, identifier(SERVER_AUTHENTICATION), identifier(CLIENT_AUTHENTICATION))),
+                   critical_extension(BASIC_CONSTRAINTS, element(SEQUENCE, room(0))),
+                   extension(SUBJECT_KEY, random_element(OCTET_STRING, 20)),
+                   extension(AUTHORITY_KEY, element(SEQUENCE, random_element(KEY_IDENTIFIER, 20))),
+                   extension(AUTHORITY_ACCESS, HOLDING(SEQUENCE, ocsp, issuers)),
+                   extension(SUBJECT_ALT_NAME, element(SEQUENCE, leaf->dns_ids)),
+                   extension(POLICIES, element(SEQUENCE, element(SEQUENCE, identifier(DOMAIN_VALIDATED)))),
+                   extension(REVOCATION_LISTS, element(SEQUENCE, element(SEQUENCE, list))),
+                   extension(SIGNED_TIMESTAMPS, random_element(OCTET_STRING, 119)),
+                   repeated(room(0), further, leaf->further));
+}
+
+static struct bytes leaf_of(const struct leaf *leaf)
+{
+    struct bytes ecdsa = HOLDING(SEQUENCE, identifier(ECDSA_SHA256)), rsa = HOLDING(SEQUENCE, identifier(RSA_SHA256), element(NO_VALUE, room(0)));
+    struct bytes algorithm = leaf->is_rsa ? rsa : ecdsa, version = element(EXPLICIT_0, element(INTEGER, text("\x02")));
+    struct bytes issuer = HOLDING(SEQUENCE, attribute(COUNTRY, PRINTABLE_STRING, "US"), attribute(ORGANIZATION, PRINTABLE_STRING, "Example Trust"),
+                                  attribute(COMMON_NAME, PRINTABLE_STRING, "E5"));
+    struct bytes validity = HOLDING(SEQUENCE, element(UTC_TIME, text("231101000000Z")), element(UTC_TIME, text("240130000000Z")));
+    struct bytes to_be_signed = HOLDING(SEQUENCE, version, random_element(INTEGER, 18), algorithm, issuer, validity,
+                                        subject_of(leaf), key_info_of(leaf), element(EXPLICIT_3, extensions_of(leaf)));
+
+    return HOLDING(SEQUENCE, to_be_signed, algorithm, random_element(BIT_STRING, leaf->is_rsa ? 257 : 72));
+}
+
+/* So many DNS-IDs: "mxNN" with this end, and as the last of them leaf_name. */
+static struct bytes leaf_dns_ids(size_t count, const char *end)
+{
+    struct bytes ids = room(0);
+    char name[96];
+
+    for (size_t i = 0; i + 1 < count; i++) {
+        snprintf(name, sizeof name, "mx%02zu%s", i, end);
+        ids = joined(ids, element(DNS_NAME, text(name)));
+    }
+    return count == 0 ? ids : joined(ids, element(DNS_NAME, text(leaf_name)));
+}
+
+/* The offset of the first place where the piece stands. It is there. */
+static size_t offset_of(struct bytes b, struct bytes piece)
+{
+    size_t i = 0;
+
+    while (memcmp(b.at + i, piece.at, piece.length) != 0)
+        i++;
+    return i;
+}
+
+enum { PLACE = 16, NAME_HEADER = 2 };
+
+/* The places of the DNS-IDs in the certificate, as read_certificate writes them. */
+static struct bytes places_of(struct bytes certificate, struct bytes dns_ids)
+{
+    struct bytes places = room(0);
+    size_t start = offset_of(certificate, dns_ids);
+
+    for (size_t i = 0; i < dns_ids.length; i += NAME_HEADER + dns_ids.at[i + 1]) {
+        struct bytes place = room(PLACE);
+        put_number(place, 1, start + i + NAME_HEADER);
+        put_number(place, 3, dns_ids.at[i + 1]);
+        places = joined(places, place);
+    }
+    return places;
+}
+
+/* This is answered and written, into places of that length. The dots behind it have to stay. */
+static void expect_read(struct input *input, const struct tweedstork_certificate_answer *answer, struct bytes written, size_t length)
+{
+    struct bytes a = room(sizeof *answer);
+
+    memcpy(a.at, answer, a.length);
+    input->output = room(length + a.length);
+    input->text = joined(repeated(written, text("."), length - written.length), a);
+    expect(input, 0, answer->number, 0, 0, 0);
+}
+
+static void expect_unread(struct input *input, uint64_t refusal, uint64_t offset, size_t length)
+{
+    const struct tweedstork_certificate_answer answer = {refusal, 0, offset, 0, 0, 0, 0, 0, 0};
+
+    expect_read(input, &answer, room(0), length);
+}
+
+static void make_reading(struct input *input, const struct leaf *leaf)
+{
+    struct bytes certificate = leaf_of(leaf), key = key_info_of(leaf), name = element(UTF8_STRING, text(leaf_name));
+    struct bytes places = places_of(certificate, leaf->dns_ids);
+    const struct tweedstork_certificate_answer answer = {
+        TWEEDSTORK_DONE, places.length, 0, offset_of(certificate, key), key.length, places.length / PLACE,
+        TWEEDSTORK_YES, offset_of(certificate, name) + NAME_HEADER, name.length - NAME_HEADER};
+
+    input->first = certificate;
+    expect_read(input, &answer, places, TWEEDSTORK_PLACES_ROOM);
+}
+
+static struct input *add_reading(struct inputs *inputs, const char *name, const struct leaf *leaf)
+{
+    struct input *input = add(inputs, READING, READ_CERTIFICATE, name);
+
+    make_reading(input, leaf);
+    return input;
+}
+
+static const char long_end[] = ".division-07.all-merchants-of-the-payment-house.example.com";
+
+const char many_dns_ids_by_leaf[] = "a policy, 64 DNS-IDs, the last is the host, leaf read";
+const char refused_at_the_first_byte[] = "leaf of 0.8 KB, refused at its first byte";
+const char refused_at_the_last_element[] = "leaf of 0.8 KB, refused at its last element";
+
+static void add_refused_readings(struct inputs *inputs)
+{
+    struct leaf leaf = {0, leaf_dns_ids(2, ".example.com"), 0};
+    struct input *input = add_reading(inputs, refused_at_the_first_byte, &leaf);
+
+    input->first.at[0] = SET;
+    expect_unread(input, TWEEDSTORK_CERTIFICATE_MALFORMED, 0, TWEEDSTORK_PLACES_ROOM);
+    input = add_reading(inputs, refused_at_the_last_element, &leaf);
+    size_t last = input->first.length - (NAME_HEADER + 72);
+    input->first.at[last] = OCTET_STRING;
+    expect_unread(input, TWEEDSTORK_CERTIFICATE_MALFORMED, last, TWEEDSTORK_PLACES_ROOM);
+    leaf.dns_ids = leaf_dns_ids(64, long_end);
+    input = add_reading(inputs, "leaf of 5 KB, 64 DNS-IDs, places a byte too short", &leaf);
+    expect_unread(input, TWEEDSTORK_OUTPUT_SHORT, 0, TWEEDSTORK_PLACES_ROOM - 1);
+    leaf.dns_ids = leaf_dns_ids(65, long_end);
+    input = add(inputs, READING, READ_CERTIFICATE, "leaf of 5 KB, 65 DNS-IDs, refused as over 64");
+    input->first = leaf_of(&leaf);
+    expect_unread(input, TWEEDSTORK_MANY_DNS_IDS, 0, TWEEDSTORK_PLACES_ROOM);
+}
+
+static void add_readings(struct inputs *inputs)
+{
+    struct leaf leaf = {0, leaf_dns_ids(1, ""), 0};
+
+    add_reading(inputs, "leaf of 0.8 KB, 1 DNS-ID", &leaf);
+    leaf.dns_ids = leaf_dns_ids(2, ".example.com");
+    add_reading(inputs, "leaf of 0.8 KB, 2 DNS-IDs", &leaf);
+    leaf.is_rsa = 1;
+    add_reading(inputs, "leaf of 1.3 KB, RSA key, subject of 5 attributes, 2 DNS-IDs", &leaf);
+    leaf = (struct leaf){0, leaf_dns_ids(8, long_end), 0};
+    add_reading(inputs, "leaf of 1.2 KB, 8 DNS-IDs", &leaf);
+    leaf.dns_ids = leaf_dns_ids(64, long_end);
+    add_reading(inputs, "leaf of 5 KB, 64 DNS-IDs", &leaf);
+    leaf = (struct leaf){0, leaf_dns_ids(2, ".example.com"), 100};
+    add_reading(inputs, "leaf of 4.8 KB, 2 DNS-IDs, 100 further extensions", &leaf);
+    add_refused_readings(inputs);
+}
+
+/* ---- hosts by their leaf ---- */
+
+/* The leaf in the place of the first certificate, with its names and the place of its key. */
+static void give_leaf(struct facts *f, const struct leaf *leaf)
+{
+    struct bytes certificate = leaf_of(leaf), key = key_info_of(leaf), ids = leaf->dns_ids;
+
+    f->certificates = joined(certificate, part(f->certificates, CERTIFICATE, f->certificates.length - CERTIFICATE));
+    put_number(f->certificate_lengths, 0, certificate.length);
+    put_number(f->key_places, 0, offset_of(certificate, key));
+    put_number(f->key_places, 1, key.length);
+    f->dns_ids = f->dns_id_lengths = room(0);
+    for (size_t i = 0; i < ids.length; i += NAME_HEADER + ids.at[i + 1]) {
+        f->dns_ids = joined(f->dns_ids, part(ids, i + NAME_HEADER, ids.at[i + 1]));
+        f->dns_id_lengths = joined(f->dns_id_lengths, list_of(1, ids.at[i + 1]));
+    }
+    f->common_name_given = TWEEDSTORK_YES;
+    f->common_name = text(leaf_name);
+}
+
+static struct facts facts_with_leaf(size_t dns_ids)
+{
+    struct leaf leaf = {0, leaf_dns_ids(dns_ids, ".example.com"), 0};
+    struct facts f = facts_with(3);
+
+    give_leaf(&f, &leaf);
+    return f;
+}
+
+/* One record 3 1 0 that is the leaf's key info, of the curve P-256. */
+static void give_leaf_key(struct facts *f)
+{
+    struct leaf leaf = {0, room(0), 0};
+    struct bytes record = joined(text("\x03\x01."), key_info_of(&leaf));
+
+    record.at[2] = 0;
+    give_records(f, 1, 3);
+    f->tlsa[0].lengths = list_of(1, record.length);
+    f->tlsa[0].records = record;
+}
+
+/* The same host by its leaf and by what the relay says of the leaf. */
+static void add_judgements(struct inputs *inputs, const char *name, const struct facts *f, uint64_t number, uint64_t questions)
+{
+    char marked[96];
+
+    snprintf(marked, sizeof marked, "%s, leaf read", name);
+    struct input *input = add(inputs, LEAF_READ, JUDGE_HOST_CERTIFICATE, marked);
+    input->facts[0] = *f;
+    expect(input, 0, number, questions, 0, 0);
+    snprintf(marked, sizeof marked, "%s, names given", name);
+    input = add(inputs, NAMES_GIVEN, JUDGE_HOST, marked);
+    input->facts[0] = *f;
+    expect(input, 0, number, questions, 0, 0);
+}
+
+static void add_leaves(struct inputs *inputs)
+{
+    struct facts f = facts_with_leaf(2);
+
+    give_records(&f, 1, 3);
+    match(&f, 0, 0);
+    add_judgements(inputs, "1 TLSA record 3 1 1, 2 DNS-IDs", &f, TWEEDSTORK_DANE, 1);
+    give_leaf_key(&f);
+    add_judgements(inputs, "1 TLSA record 3 1 0 (91 bytes), 2 DNS-IDs", &f, TWEEDSTORK_DANE, 1);
+    give_records(&f, 1, 2);
+    match(&f, 0, 1);
+    add_judgements(inputs, "1 TLSA record 2 1 1, 2 DNS-IDs", &f, TWEEDSTORK_DANE, 1);
+    give_policy(&f);
+    add_judgements(inputs, "1 TLSA record 2 1 1, 2 DNS-IDs, a policy", &f, TWEEDSTORK_DANE_AND_MTA_STS, 1);
+    f = facts_with_leaf(2);
+    give_policy(&f);
+    add_judgements(inputs, "a policy, 2 DNS-IDs", &f, TWEEDSTORK_MTA_STS, 0);
+    f = facts_with_leaf(64);
+    give_policy(&f);
+    add_judgements(inputs, "a policy, 64 DNS-IDs, the last is the host", &f, TWEEDSTORK_MTA_STS, 0);
+    f.certificates_given = TWEEDSTORK_CERTIFICATES_NOT_GIVEN;
+    add_judgements(inputs, "a policy, no certificates given yet", &f, TWEEDSTORK_ASK_CERTIFICATES, 0);
+    f = facts_with_leaf(2);
+    give_policy(&f);
+    struct input *input = add(inputs, LEAF_READ, JUDGE_HOST_CERTIFICATE, "a policy, 2 DNS-IDs, the leaf refused at its first byte");
+    f.certificates.at[0] = SET;
+    input->facts[0] = f;
+    expect(input, 0, TWEEDSTORK_CERTIFICATE_MALFORMED, 0, 0, 0);
 }
 
 /* ---- whole decisions ---- */
@@ -772,7 +1134,8 @@ static void make_decision(struct input *input, struct facts f, uint64_t verdict)
     expect(input, step, TWEEDSTORK_ASK_TLSA_HOST, 0, 0, 0);
 }
 
-const char mta_sts_decision[] = "MTA-STS: 4 calls, policy of 63 bytes, 3 certificates";
+const char dane_decision_by_leaf[] = "DANE: 5 calls, 2 records 3 1 1, 3 certificates, leaf of 0.8 KB read";
+const char mta_sts_decision_by_leaf[] = "MTA-STS: 4 calls, policy of 63 bytes, 3 certificates, leaf of 0.8 KB read";
 const char whole_certificate_decision[] = "DANE: 5 calls, 1 record 3 0 0 (1.5 KB), 3 certificates";
 
 static void add_decisions(struct inputs *inputs)
@@ -784,7 +1147,7 @@ static void add_decisions(struct inputs *inputs)
     make_decision(add(inputs, DECISIONS, JUDGE_HOST, "DANE: 5 calls, 2 records 3 1 1, 3 certificates"), f, TWEEDSTORK_DANE);
     f = facts_with(3);
     give_policy(&f);
-    make_decision(add(inputs, DECISIONS, JUDGE_HOST, mta_sts_decision), f, TWEEDSTORK_MTA_STS);
+    make_decision(add(inputs, DECISIONS, JUDGE_HOST, "MTA-STS: 4 calls, policy of 63 bytes, 3 certificates"), f, TWEEDSTORK_MTA_STS);
     f = facts_with(3);
     give_whole_leaf(&f);
     make_decision(add(inputs, DECISIONS, JUDGE_HOST, whole_certificate_decision), f, TWEEDSTORK_DANE);
@@ -793,6 +1156,13 @@ static void add_decisions(struct inputs *inputs)
     f.tls_version = TWEEDSTORK_TLS_1_0;
     f.certificates_given = TWEEDSTORK_CERTIFICATES_NOT_GIVEN;
     make_decision(add(inputs, DECISIONS, JUDGE_HOST, "DANE: 4 calls, 2 records 3 1 1, TLS 1.0 (next host)"), f, TWEEDSTORK_OLD_TLS);
+    f = facts_with_leaf(2);
+    give_records(&f, 2, 3);
+    match(&f, 1, 0);
+    make_decision(add(inputs, DECISIONS, JUDGE_HOST_CERTIFICATE, dane_decision_by_leaf), f, TWEEDSTORK_DANE);
+    f = facts_with_leaf(2);
+    give_policy(&f);
+    make_decision(add(inputs, DECISIONS, JUDGE_HOST_CERTIFICATE, mta_sts_decision_by_leaf), f, TWEEDSTORK_MTA_STS);
 }
 
 /* ---- growth ---- */
@@ -861,6 +1231,18 @@ static void add_dns_id_series(struct inputs *inputs)
     }
 }
 
+static void add_leaf_series(struct inputs *inputs)
+{
+    for (size_t count = 1; count <= 64; count *= 2) {
+        struct leaf leaf = {0, leaf_dns_ids(count, ".example.com"), 0};
+        make_reading(add_counted(inputs, LEAF_DNS_IDS, READ_CERTIFICATE, count), &leaf);
+    }
+    for (size_t further = 4; further <= 1024; further *= 4) {
+        struct leaf leaf = {0, leaf_dns_ids(2, ".example.com"), further};
+        make_reading(add_counted(inputs, LEAF_BYTES, READ_CERTIFICATE, leaf_of(&leaf).length), &leaf);
+    }
+}
+
 /* The hosts stand in the reverse of their order; all are "next hosts" but the one that comes last. */
 static void add_host_series(struct inputs *inputs)
 {
@@ -884,10 +1266,13 @@ struct inputs *build_inputs(void)
     add_txt(inputs);
     add_publishing(inputs);
     add_single_hosts(inputs);
+    add_readings(inputs);
+    add_leaves(inputs);
     add_decisions(inputs);
     add_record_series(inputs);
     add_certificate_series(inputs);
     add_dns_id_series(inputs);
+    add_leaf_series(inputs);
     add_host_series(inputs);
     return inputs;
 }

@@ -17,7 +17,7 @@ struct tlsa {
     struct bytes lengths, records;
 };
 
-/* The arguments of tweedstork_judge_host. */
+/* The arguments of tweedstork_judge_host; of these tweedstork_judge_host_certificate takes neither the leaf's place of the key nor its names. */
 struct facts {
     uint64_t clock;
     struct bytes next_hop;
@@ -50,28 +50,31 @@ struct cache_call {
 
 enum { ANSWER_FIELDS = 6 };
 
-/* An answer of any call: its number, then its other fields, then zeros. A lookup's other fields stand in the input's output. */
+/* An answer of any call: its number, then its other fields, then zeros. The other fields of a lookup and of a certificate's reading stand in the input's output. */
 struct answer {
     uint64_t fields[ANSWER_FIELDS];
 };
 
-enum call { READ_TXT, READ_POLICY, CACHE_STORE, CACHE_LOOKUP, JUDGE_HOST, NEXT_HOST, WRITE_TXT, WRITE_POLICY, REWRITE_POLICY };
+enum call {
+    READ_TXT, READ_POLICY, CACHE_STORE, CACHE_LOOKUP, JUDGE_HOST, READ_CERTIFICATE, JUDGE_HOST_CERTIFICATE, NEXT_HOST, WRITE_TXT, WRITE_POLICY, REWRITE_POLICY
+};
 
 /* The tables that the results are shown in. From LAST_RECORD_MATCHES on each is a series that shows growth. */
 enum table {
-    CALLS, CACHE, PUBLISHING, DECISIONS, LAST_RECORD_MATCHES, NO_RECORD_MATCHES, CERTIFICATES, POLICY_BYTES, TXT_BYTES, DNS_IDS, OTHER_DNS_IDS, HOSTS, TABLES
+    CALLS, CACHE, PUBLISHING, READING, LEAF_READ, NAMES_GIVEN, DECISIONS,
+    LAST_RECORD_MATCHES, NO_RECORD_MATCHES, CERTIFICATES, POLICY_BYTES, TXT_BYTES, DNS_IDS, OTHER_DNS_IDS, LEAF_DNS_IDS, LEAF_BYTES, HOSTS, TABLES
 };
 
-enum { MAX_STEPS = 5, MAX_INPUTS = 104 };
+enum { MAX_STEPS = 5, MAX_INPUTS = 144 };
 
 /* One call, or the calls of a decision on a host, with what must be answered. */
 struct input {
     enum table table;
     char name[96];
     enum call call;
-    struct bytes first, second; /* rdatas and lengths; body; preferences and verdicts; id; patterns and their lengths */
+    struct bytes first, second; /* rdatas and lengths; body; preferences and verdicts; id; patterns and their lengths; certificate */
     uint64_t mode, lifetime;    /* of write_policy */
-    struct bytes output, text;  /* of cache_lookup: where its whole answer goes, else lent memory; and what must stand there afterwards */
+    struct bytes output, text;  /* lent memory, and behind it where the whole answer of cache_lookup or read_certificate goes; what must stand there afterwards */
     struct cache_call cache;
     size_t steps;
     struct facts facts[MAX_STEPS];
@@ -87,7 +90,8 @@ struct inputs {
 struct inputs *build_inputs(void);
 
 /* The names of inputs with a promise of their own. */
-extern const char lookup_of_none[], measured_rewriting[], certificates_beside_old_tls[], mta_sts_decision[], whole_certificate_decision[];
+extern const char many_dns_ids_by_leaf[], refused_at_the_first_byte[], refused_at_the_last_element[], lookup_of_none[], measured_rewriting[], one_usage_3_record[], one_usage_2_record[], one_usage_2_record_expanded[], certificates_beside_old_tls[], whole_certificate_decision[],
+    dane_decision_by_leaf[], mta_sts_decision_by_leaf[];
 
 /* The first input of a table. */
 const struct input *first_input(const struct inputs *inputs, enum table table);

@@ -3,6 +3,8 @@
  * the library's checks and answers on every input, no heap, every byte read once or twice, tables for the classes of
  * bytes, memcmp and memcpy where they fit, and no pointer that leaves its slice. Nothing of it is proved.
  */
+#define _DEFAULT_SOURCE
+#include <endian.h>
 #include <string.h>
 
 #include "plain.h"
@@ -619,12 +621,350 @@ struct tweedstork_cache_answer plain_cache_lookup(
     return found;
 }
 
+/* ---- the leaf certificate ---- */
+
+enum { DNS_IDS_LIMIT = 64, PLACE = 16 /* of a DNS-ID: start and length, eight bytes each */ };
+
+/* How deep elements may be, the certificate being at level 1, and how deep fields are. */
+enum { DEEPEST = 16, IN_CERTIFICATE = 2, IN_TBS_CERTIFICATE = 3, IN_ATTRIBUTE = 6, IN_EXTENSION = 6, IN_GENERAL_NAMES = 8 };
+
+/* Tags of X.690, and those that RFC 5280 gives the fields of TBSCertificate and GeneralName. */
+enum {
+    CONSTRUCTED = 0x20, SEVERAL_BYTES = 0x1f,
+    BOOLEAN = 0x01, INTEGER = 0x02, BIT_STRING = 0x03, OCTET_STRING = 0x04, OBJECT_IDENTIFIER = 0x06, SEQUENCE = 0x30, SET = 0x31,
+    VERSION = 0xa0, ISSUER_UNIQUE_ID = 0x81, SUBJECT_UNIQUE_ID = 0x82, EXTENSIONS = 0xa3,
+    OTHER_NAME = 0xa0, RFC822_NAME = 0x81, DNS_NAME = 0x82, X400_ADDRESS = 0xa3, DIRECTORY_NAME = 0xa4, EDI_PARTY_NAME = 0xa5,
+    RESOURCE_IDENTIFIER = 0x86, IP_ADDRESS = 0x87, REGISTERED_ID = 0x88
+};
+
+/* What is read of a leaf. */
+struct leaf {
+    struct slice key_info, common_name; /* at NULL: it has no common name */
+    int has_alt_name;
+    size_t dns_id_count;
+    struct slice dns_ids[DNS_IDS_LIMIT]; /* the first of them */
+};
+
+struct element {
+    const uint8_t *contents, *end;
+};
+
+static struct slice contents_of(const struct element *e)
+{
+    return (struct slice){e->contents, (size_t)(e->end - e->contents)};
+}
+
+/* Is it the object identifier 2.5.third.fourth? */
+static int is_identifier(struct slice s, uint8_t third, uint8_t fourth)
+{
+    return s.length == 3 && s.at[0] == 0x55 && s.at[1] == third && s.at[2] == fourth;
+}
+
+/* A length that is written in so many bytes. Zero where that is not its shortest form, or it can't fit. */
+static size_t read_long_length(const uint8_t *at, const uint8_t *end, size_t bytes)
+{
+    size_t length = 0;
+
+    if (bytes == 0 || bytes > sizeof length || bytes > (size_t)(end - at) || at[0] == 0)
+        return 0;
+    for (size_t i = 0; i < bytes; i++)
+        length = length << 8 | at[i];
+    return length < 0x80 ? 0 : length;
+}
+
+/* Reads the header of the element at that place. Zero where it has another form, or the element overruns what holds it. */
+static inline int read_header(const uint8_t *at, const uint8_t *end, struct element *e)
+{
+    if (end - at < 2 || (at[0] & SEVERAL_BYTES) == SEVERAL_BYTES)
+        return 0;
+    const uint8_t *contents = at + 2;
+    size_t length = at[1];
+    if (length >= 0x80) {
+        size_t bytes = length & 0x7f;
+        length = read_long_length(contents, end, bytes);
+        if (length == 0)
+            return 0;
+        contents += bytes;
+    }
+    if (length > (size_t)(end - contents))
+        return 0;
+    *e = (struct element){contents, contents + length};
+    return 1;
+}
+
+/* Walks a run of elements with any tags, and what is inside them. Where does it stop: at its end, or at the first that offends? */
+static const uint8_t *walk(const uint8_t *at, const uint8_t *end, int level)
+{
+    struct element e;
+
+    if (level > DEEPEST)
+        return at;
+    while (at < end) {
+        if (!read_header(at, end, &e))
+            return at;
+        if (at[0] & CONSTRUCTED) {
+            const uint8_t *stop = walk(e.contents, e.end, level + 1);
+            if (stop != e.end)
+                return stop;
+        }
+        at = e.end;
+    }
+    return at;
+}
+
+/*
+ * From here on a reader goes over RFC 5280's fields, none of which is too deep by itself. Its end is that of the element that it is in.
+ * Where a function returns zero, it stands at what offends.
+ */
+
+static int is_at(const struct reader *r, uint8_t tag)
+{
+    return r->at < r->end && *r->at == tag;
+}
+
+/* Moves past any element at that level, and what is inside it. */
+static int pass_any(struct reader *r, int level)
+{
+    struct element e;
+
+    if (!read_header(r->at, r->end, &e))
+        return 0;
+    r->at = *r->at & CONSTRUCTED ? walk(e.contents, e.end, level + 1) : e.end;
+    return r->at == e.end;
+}
+
+static inline int pass(struct reader *r, uint8_t tag, int level)
+{
+    return is_at(r, tag) && pass_any(r, level);
+}
+
+static inline int pass_optional(struct reader *r, uint8_t tag, int level)
+{
+    return !is_at(r, tag) || pass_any(r, level);
+}
+
+/* Moves into an element with that tag. */
+static inline int enter(struct reader *r, uint8_t tag)
+{
+    struct element e;
+
+    if (!is_at(r, tag) || !read_header(r->at, r->end, &e))
+        return 0;
+    *r = (struct reader){e.contents, e.end};
+    return 1;
+}
+
+/* Moves out of an element, of which nothing may be left, into the one that holds it and has that end. */
+static inline int leave(struct reader *r, const uint8_t *end)
+{
+    if (r->at != r->end)
+        return 0;
+    r->end = end;
+    return 1;
+}
+
+/* Reads the object identifier of an attribute or extension. */
+static inline int read_type(struct reader *r, struct slice *type)
+{
+    struct element e;
+
+    if (!is_at(r, OBJECT_IDENTIFIER) || !read_header(r->at, r->end, &e))
+        return 0;
+    *type = contents_of(&e);
+    r->at = e.end;
+    return 1;
+}
+
+/* Moves past an element that holds just one other. */
+static int pass_explicit(struct reader *r, uint8_t outer, uint8_t inner, int level)
+{
+    const uint8_t *end = r->end;
+
+    return enter(r, outer) && pass(r, inner, level + 1) && leave(r, end);
+}
+
+static int read_attribute(struct reader *r, struct leaf *leaf)
+{
+    const uint8_t *end = r->end;
+    struct slice type;
+    struct element value;
+
+    if (!enter(r, SEQUENCE) || !read_type(r, &type) || !read_header(r->at, r->end, &value))
+        return 0;
+    if (is_identifier(type, 4, 3))
+        leaf->common_name = contents_of(&value);
+    return pass_any(r, IN_ATTRIBUTE) && leave(r, end);
+}
+
+static int read_subject(struct reader *r, struct leaf *leaf)
+{
+    const uint8_t *end = r->end;
+
+    if (!enter(r, SEQUENCE))
+        return 0;
+    while (r->at < r->end) {
+        const uint8_t *names_end = r->end;
+        if (!enter(r, SET))
+            return 0;
+        while (r->at < r->end)
+            if (!read_attribute(r, leaf))
+                return 0;
+        r->end = names_end;
+    }
+    return leave(r, end);
+}
+
+static int read_general_name(struct reader *r, struct leaf *leaf)
+{
+    struct element e;
+
+    if (is_at(r, DNS_NAME)) {
+        if (!read_header(r->at, r->end, &e))
+            return 0;
+        if (leaf->dns_id_count < DNS_IDS_LIMIT)
+            leaf->dns_ids[leaf->dns_id_count] = contents_of(&e);
+        leaf->dns_id_count++;
+        r->at = e.end;
+        return 1;
+    }
+    switch (*r->at) {
+    case DIRECTORY_NAME:
+        return pass_explicit(r, DIRECTORY_NAME, SEQUENCE, IN_GENERAL_NAMES);
+    case OTHER_NAME:
+    case RFC822_NAME:
+    case X400_ADDRESS:
+    case EDI_PARTY_NAME:
+    case RESOURCE_IDENTIFIER:
+    case IP_ADDRESS:
+    case REGISTERED_ID:
+        return pass_any(r, IN_GENERAL_NAMES);
+    default:
+        return 0;
+    }
+}
+
+/* The string that holds the extension's value, and the GeneralNames in it. */
+static int read_alt_name(struct reader *r, struct leaf *leaf)
+{
+    const uint8_t *end = r->end, *string_end;
+
+    if (!enter(r, OCTET_STRING))
+        return 0;
+    string_end = r->end;
+    if (!enter(r, SEQUENCE))
+        return 0;
+    while (r->at < r->end)
+        if (!read_general_name(r, leaf))
+            return 0;
+    return leave(r, string_end) && leave(r, end);
+}
+
+static int read_extension(struct reader *r, struct leaf *leaf)
+{
+    const uint8_t *start = r->at, *end = r->end;
+    struct slice type;
+
+    if (!enter(r, SEQUENCE) || !read_type(r, &type))
+        return 0;
+    int is_alt_name = is_identifier(type, 29, 17);
+    if (is_alt_name && leaf->has_alt_name) {
+        r->at = start;
+        return 0;
+    }
+    leaf->has_alt_name |= is_alt_name;
+    return pass_optional(r, BOOLEAN, IN_EXTENSION) && (is_alt_name ? read_alt_name(r, leaf) : pass(r, OCTET_STRING, IN_EXTENSION)) && leave(r, end);
+}
+
+static int read_extensions(struct reader *r, struct leaf *leaf)
+{
+    const uint8_t *end = r->end, *list_end;
+
+    if (!enter(r, EXTENSIONS))
+        return 0;
+    list_end = r->end;
+    if (!enter(r, SEQUENCE))
+        return 0;
+    while (r->at < r->end)
+        if (!read_extension(r, leaf))
+            return 0;
+    return leave(r, list_end) && leave(r, end);
+}
+
+static int read_tbs_certificate(struct reader *r, struct leaf *leaf)
+{
+    const uint8_t *end = r->end, *key_info;
+
+    if (!enter(r, SEQUENCE) || (is_at(r, VERSION) && !pass_explicit(r, VERSION, INTEGER, IN_TBS_CERTIFICATE))
+        || !pass(r, INTEGER, IN_TBS_CERTIFICATE) /* serialNumber */
+        || !pass(r, SEQUENCE, IN_TBS_CERTIFICATE) /* signature */ || !pass(r, SEQUENCE, IN_TBS_CERTIFICATE) /* issuer */
+        || !pass(r, SEQUENCE, IN_TBS_CERTIFICATE) /* validity */ || !read_subject(r, leaf))
+        return 0;
+    key_info = r->at;
+    if (!pass(r, SEQUENCE, IN_TBS_CERTIFICATE))
+        return 0;
+    leaf->key_info = (struct slice){key_info, (size_t)(r->at - key_info)};
+    return pass_optional(r, ISSUER_UNIQUE_ID, IN_TBS_CERTIFICATE) && pass_optional(r, SUBJECT_UNIQUE_ID, IN_TBS_CERTIFICATE)
+        && (!is_at(r, EXTENSIONS) || read_extensions(r, leaf)) && leave(r, end);
+}
+
+/* Reads a leaf. Zero, or the refusal, with the offset of what offends. */
+static uint64_t read_leaf(struct slice certificate, struct leaf *leaf, uint64_t *offset)
+{
+    const uint8_t *end = certificate.at + certificate.length;
+    struct reader r = {certificate.at, end};
+
+    leaf->common_name = (struct slice){NULL, 0};
+    leaf->has_alt_name = 0;
+    leaf->dns_id_count = 0;
+    if (!enter(&r, SEQUENCE) || !read_tbs_certificate(&r, leaf) || !pass(&r, SEQUENCE, IN_CERTIFICATE) /* signatureAlgorithm */
+        || !pass(&r, BIT_STRING, IN_CERTIFICATE) /* signatureValue */ || !leave(&r, end) || r.at != end) {
+        *offset = (uint64_t)(r.at - certificate.at);
+        return TWEEDSTORK_CERTIFICATE_MALFORMED;
+    }
+    return leaf->dns_id_count > DNS_IDS_LIMIT ? TWEEDSTORK_MANY_DNS_IDS : 0;
+}
+
+static void put_number(uint8_t *p, uint64_t number)
+{
+    number = htobe64(number);
+    memcpy(p, &number, sizeof number);
+}
+
+struct tweedstork_certificate_answer plain_read_certificate(const uint8_t *certificate, size_t certificate_length, uint8_t *places, size_t places_length)
+{
+    struct tweedstork_certificate_answer a = {0, 0, 0, 0, 0, 0, 0, 0, 0};
+    struct leaf leaf;
+
+    a.number = read_leaf((struct slice){certificate, certificate_length}, &leaf, &a.offset);
+    if (a.number != 0)
+        return a;
+    if (PLACE * leaf.dns_id_count > places_length) {
+        a.number = TWEEDSTORK_OUTPUT_SHORT;
+        return a;
+    }
+    for (size_t i = 0; i < leaf.dns_id_count; i++) {
+        put_number(places + PLACE * i, (uint64_t)(leaf.dns_ids[i].at - certificate));
+        put_number(places + PLACE * i + PLACE / 2, leaf.dns_ids[i].length);
+    }
+    a.number = TWEEDSTORK_DONE;
+    a.length = PLACE * leaf.dns_id_count;
+    a.key_start = (uint64_t)(leaf.key_info.at - certificate);
+    a.key_length = leaf.key_info.length;
+    a.dns_id_count = leaf.dns_id_count;
+    a.common_name_given = leaf.common_name.at == NULL ? TWEEDSTORK_NO : TWEEDSTORK_YES;
+    if (leaf.common_name.at != NULL) {
+        a.common_name_start = (uint64_t)(leaf.common_name.at - certificate);
+        a.common_name_length = leaf.common_name.length;
+    }
+    return a;
+}
+
 /* ---- a host's facts ---- */
 
 enum {
     RECORDS_LIMIT = 32, RECORD_LIMIT = 4096, VERSION_LIMIT = 65535,
     CERTIFICATES_LIMIT = 8, CERTIFICATE_LIMIT = 16384, CERTIFICATES_BYTES_LIMIT = 65536,
-    DNS_IDS_LIMIT = 64, PRESENTED_NAME_LIMIT = 255,
+    PRESENTED_NAME_LIMIT = 255,
     SHA256 = 32, SHA512 = 64, DIGESTS = 2 * (SHA256 + SHA512) /* of a certificate and its key info */
 };
 
@@ -640,6 +980,7 @@ struct shown {
     struct slice dns_ids, dns_id_lengths;
     uint64_t common_name_given;
     struct slice common_name;
+    struct leaf *leaf; /* NULL, or where to read the leaf into: then neither its names nor its place of the key are given */
 };
 
 struct facts {
@@ -705,20 +1046,48 @@ static int tlsa_fits(const struct facts *f)
     return 1;
 }
 
-static int shown_fits(const struct shown *s)
+/* Are the certificates and what belongs to each within the limits? */
+static int chain_fits(const struct shown *s)
 {
-    size_t count = s->lengths.length / 4;
+    size_t count = s->lengths.length / 4, first = s->leaf != NULL && count != 0; /* the first whose place of the key is given */
 
     if (s->certificates.length > CERTIFICATES_BYTES_LIMIT || !are_lengths(s->lengths, CERTIFICATES_LIMIT, CERTIFICATE_LIMIT, s->certificates.length)
-        || s->key_places.length != 8 * count || s->digests.length != DIGESTS * count || s->paths.length != 4 * count)
+        || s->key_places.length != 8 * (count - first) || s->digests.length != DIGESTS * count || s->paths.length != 4 * count)
         return 0;
-    for (size_t i = 0; i < count; i++) {
-        const uint8_t *place = s->key_places.at + 8 * i;
+    for (size_t i = first; i < count; i++) {
+        const uint8_t *place = s->key_places.at + 8 * (i - first);
         if ((uint64_t)number_at(place) + number_at(place + 4) > number_at(s->lengths.at + 4 * i))
             return 0;
     }
+    return 1;
+}
+
+static int given_names_fit(const struct shown *s)
+{
     return are_lengths(s->dns_id_lengths, DNS_IDS_LIMIT, PRESENTED_NAME_LIMIT, s->dns_ids.length)
         && (s->common_name_given == TWEEDSTORK_NO || s->common_name.length <= PRESENTED_NAME_LIMIT);
+}
+
+static int read_names_fit(const struct leaf *leaf)
+{
+    for (size_t i = 0; i < leaf->dns_id_count; i++)
+        if (leaf->dns_ids[i].length > PRESENTED_NAME_LIMIT)
+            return 0;
+    return leaf->common_name.length <= PRESENTED_NAME_LIMIT;
+}
+
+/* Zero, or the refusal of what the server showed. Reads the leaf, where there is one and it is to be read. */
+static uint64_t refused_shown(const struct shown *s)
+{
+    uint64_t refusal, offset;
+
+    if (!chain_fits(s))
+        return TWEEDSTORK_BAD_CERTIFICATES;
+    if (s->leaf == NULL || s->lengths.length == 0)
+        return given_names_fit(s) ? 0 : TWEEDSTORK_BAD_CERTIFICATES;
+    if ((refusal = read_leaf((struct slice){s->certificates.at, number_at(s->lengths.at)}, s->leaf, &offset)) != 0)
+        return refusal;
+    return read_names_fit(s->leaf) ? 0 : TWEEDSTORK_BAD_CERTIFICATES;
 }
 
 /* ---- DANE and MTA-STS ---- */
@@ -749,6 +1118,15 @@ static enum set set_of(const struct tlsa_answer *tlsa)
     return set;
 }
 
+/* The key info of certificate i, which starts at start. */
+static struct slice key_info(const struct shown *s, size_t i, size_t start)
+{
+    if (s->leaf != NULL && i == 0)
+        return s->leaf->key_info;
+    const uint8_t *place = s->key_places.at + 8 * (i - (s->leaf != NULL));
+    return (struct slice){s->certificates.at + start + number_at(place), number_at(place + 4)};
+}
+
 /* Does a usable record match certificate i, which starts at start? */
 static int matches(struct slice record, const struct shown *s, size_t i, size_t start)
 {
@@ -758,12 +1136,10 @@ static int matches(struct slice record, const struct shown *s, size_t i, size_t 
         const uint8_t *digest = s->digests.at + DIGESTS * i + (record.at[1] == 0 ? 0 : SHA256 + SHA512) + (record.at[2] == 1 ? 0 : SHA256);
         return memcmp(data.at, digest, data.length) == 0;
     }
-    size_t length = number_at(s->lengths.at + 4 * i);
-    if (record.at[1] == 1) {
-        start += number_at(s->key_places.at + 8 * i);
-        length = number_at(s->key_places.at + 8 * i + 4);
-    }
-    return data.length == length && memcmp(data.at, s->certificates.at + start, length) == 0;
+    struct slice whole = {s->certificates.at + start, number_at(s->lengths.at + 4 * i)};
+    if (record.at[1] == 1)
+        whole = key_info(s, i, start);
+    return data.length == whole.length && memcmp(data.at, whole.at, whole.length) == 0;
 }
 
 /* Does a usable record match a certificate after the leaf to which the path verifies? */
@@ -779,17 +1155,29 @@ static int matches_after_leaf(struct slice record, const struct shown *s)
     return 0;
 }
 
+/* Does the name cover one of the references? */
+static inline int covers_one(struct slice name, const struct reference *references, size_t count)
+{
+    for (size_t k = 0; k < count; k++)
+        if (covers(name, &references[k]))
+            return 1;
+    return 0;
+}
+
+/* Where the leaf was read, no DNS-ID was given. */
 static int some_dns_id_covers(const struct shown *s, const struct reference *references, size_t count)
 {
     struct slice id = {s->dns_ids.at, 0};
 
+    for (size_t i = 0; s->leaf != NULL && i < s->leaf->dns_id_count; i++)
+        if (covers_one(s->leaf->dns_ids[i], references, count))
+            return 1;
     for (size_t i = 0; i < s->dns_id_lengths.length; i += 4) {
         id.length = number_at(s->dns_id_lengths.at + i);
         if (id.length == 0)
             continue;
-        for (size_t k = 0; k < count; k++)
-            if (covers(id, &references[k]))
-                return 1;
+        if (covers_one(id, references, count))
+            return 1;
         id.at += id.length;
     }
     return 0;
@@ -798,12 +1186,11 @@ static int some_dns_id_covers(const struct shown *s, const struct reference *ref
 /* Does the leaf name a reference? The common name counts only where there is no DNS-ID. */
 static int names_reference(const struct shown *s, const struct reference *references, size_t count)
 {
-    if (s->dns_id_lengths.length != 0)
+    if (s->leaf != NULL && s->leaf->dns_id_count == 0)
+        return s->leaf->common_name.at != NULL && covers_one(s->leaf->common_name, references, count);
+    if (s->leaf != NULL || s->dns_id_lengths.length != 0)
         return some_dns_id_covers(s, references, count);
-    for (size_t k = 0; s->common_name_given == TWEEDSTORK_YES && k < count; k++)
-        if (covers(s->common_name, &references[k]))
-            return 1;
-    return 0;
+    return s->common_name_given == TWEEDSTORK_YES && covers_one(s->common_name, references, count);
 }
 
 /* There is a certificate. The names are looked at once, when the first record of usage 2 matches. */
@@ -986,8 +1373,8 @@ static struct tweedstork_host_answer check_and_judge(const struct facts *f)
     }
     if (!tlsa_fits(f))
         return answer(TWEEDSTORK_BAD_TLSA, 0);
-    if (f->certificates_given != 0 && !shown_fits(&f->shown))
-        return answer(TWEEDSTORK_BAD_CERTIFICATES, 0);
+    if (f->certificates_given != 0 && (refusal = refused_shown(&f->shown)) != 0)
+        return answer(refusal, 0);
     return judge(f, needs_mta_sts, needs_mta_sts && policy.covers_host, &host);
 }
 
@@ -1034,7 +1421,51 @@ struct tweedstork_host_answer plain_judge_host(
         starttls, handshake, tls_version, certificates_given,
         {{certificates, certificates_length}, {certificate_lengths, certificate_lengths_length}, {key_places, key_places_length},
          {digests, digests_length}, {paths, paths_length}, trusted_root, {dns_ids, dns_ids_length},
-         {dns_id_lengths, dns_id_lengths_length}, common_name_given, {common_name, common_name_length}}};
+         {dns_id_lengths, dns_id_lengths_length}, common_name_given, {common_name, common_name_length}, NULL}};
+
+    return check_and_judge(&facts);
+}
+
+struct tweedstork_host_answer plain_judge_host_certificate(
+    uint64_t clock,
+    const uint8_t *next_hop, size_t next_hop_length,
+    uint64_t expanded_next_hop_given,
+    const uint8_t *expanded_next_hop, size_t expanded_next_hop_length,
+    uint64_t origin,
+    const uint8_t *host, size_t host_length,
+    uint64_t address,
+    const uint8_t *expanded, size_t expanded_length,
+    uint64_t policy_given,
+    const uint8_t *policy, size_t policy_length,
+    uint64_t fetched,
+    uint64_t tlsa_answers,
+    uint64_t tlsa1_result,
+    const uint8_t *tlsa1_lengths, size_t tlsa1_lengths_length,
+    const uint8_t *tlsa1_records, size_t tlsa1_records_length,
+    uint64_t tlsa2_result,
+    const uint8_t *tlsa2_lengths, size_t tlsa2_lengths_length,
+    const uint8_t *tlsa2_records, size_t tlsa2_records_length,
+    uint64_t starttls,
+    uint64_t handshake,
+    uint64_t tls_version,
+    uint64_t certificates_given,
+    const uint8_t *certificates, size_t certificates_length,
+    const uint8_t *certificate_lengths, size_t certificate_lengths_length,
+    const uint8_t *key_places, size_t key_places_length,
+    const uint8_t *digests, size_t digests_length,
+    const uint8_t *paths, size_t paths_length,
+    uint64_t trusted_root)
+{
+    struct leaf leaf;
+    const struct facts facts = {
+        clock, {next_hop, next_hop_length}, expanded_next_hop_given, {expanded_next_hop, expanded_next_hop_length},
+        origin, {host, host_length}, address, {expanded, expanded_length},
+        policy_given, {policy, policy_length}, fetched, tlsa_answers,
+        {{tlsa1_result, {tlsa1_lengths, tlsa1_lengths_length}, {tlsa1_records, tlsa1_records_length}},
+         {tlsa2_result, {tlsa2_lengths, tlsa2_lengths_length}, {tlsa2_records, tlsa2_records_length}}},
+        starttls, handshake, tls_version, certificates_given,
+        {{certificates, certificates_length}, {certificate_lengths, certificate_lengths_length}, {key_places, key_places_length},
+         {digests, digests_length}, {paths, paths_length}, trusted_root, {NULL, 0}, {NULL, 0}, TWEEDSTORK_NO, {NULL, 0}, &leaf}};
 
     return check_and_judge(&facts);
 }

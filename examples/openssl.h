@@ -5,8 +5,17 @@
  *
  *   TWEEDSTORK_ASK_HANDSHAKE      if (!handshake_prepare(ssl, &host)) leave the host out;
  *                                 handshake_give(ssl, SSL_connect(ssl), &host);
+ *   TWEEDSTORK_ASK_CERTIFICATES   if (!chain_facts_read(ssl, roots, &facts)) leave the host out;
+ *                                 chain_facts_give(&facts, &host);
+ *
+ * So it is with tweedstork_judge_facts_certificate, which reads the names of the leaf itself. A relay that asks
+ * tweedstork_judge_facts has OpenSSL read them:
+ *
  *   TWEEDSTORK_ASK_CERTIFICATES   if (!certificate_facts_read(ssl, roots, &host, &facts)) leave the host out;
  *                                 certificate_facts_give(&facts, &host);
+ *
+ * Both give the same answers, but where the library refuses the leaf (90 and 91; 65 for a name of over 255 bytes), and where the
+ * common name is of a type that OpenSSL turns into UTF-8 and the library compares as it stands (such as BMPString).
  *
  * The socket is a blocking one with a time-out. With another, go on while SSL_get_error says SSL_ERROR_WANT_READ or
  * SSL_ERROR_WANT_WRITE: that is no outcome. Where the error is the relay's own (ERR_R_MALLOC_FAILURE, SSL_R_NO_CIPHERS_AVAILABLE,
@@ -26,7 +35,10 @@
 #define MOST_DNS_IDS 64
 #define MOST_NAME_BYTES 255
 
-/* Room for the facts: over 80,000 bytes, which have to stay where they are as long as a host's facts point at them. */
+/*
+ * Room for the facts: over 80,000 bytes, which have to stay where they are as long as a host's facts point at them. From dns_id_count
+ * on they are those of certificate_facts_read alone.
+ */
 struct certificate_facts {
     size_t count, length; /* how many certificates there are, and how many bytes they have in all */
     uint8_t certificates[MOST_CHAIN_BYTES], lengths[4 * MOST_CERTIFICATES], key_places[8 * MOST_CERTIFICATES];
@@ -55,13 +67,23 @@ int handshake_prepare(SSL *ssl, const struct tweedstork_host_facts *host);
 void handshake_give(const SSL *ssl, int connected, struct tweedstork_host_facts *host);
 
 /*
- * Reads the facts of a connection whose handshake is finished.
+ * Reads the facts of a connection whose handshake is finished, for tweedstork_judge_facts_certificate: the certificates that the
+ * server showed, their key places, digests and paths, and whether the path ends in a trusted root; and no names.
  * roots: whom the relay trusts, made once by X509_STORE_new and X509_STORE_set_default_paths (which succeeds with no roots there
  *        too: see at start-up that a certificate that should verify does).
- * host:  its four names are read: where a leaf has too many DNS-IDs, only those are given that can match one of them. So the facts
- *        are for this host alone.
  * Returns 0 where there are no facts: the session was resumed, memory is short, or the leaf can't be read or is outside the
  * library's limits. The relay then leaves the host out, as after TWEEDSTORK_BAD_CERTIFICATES.
+ */
+int chain_facts_read(SSL *ssl, X509_STORE *roots, struct certificate_facts *facts);
+
+/* Points the host's facts at these, of which those for names stay as they were. */
+void chain_facts_give(const struct certificate_facts *facts, struct tweedstork_host_facts *host);
+
+/*
+ * The same for tweedstork_judge_facts, with the names that OpenSSL reads in the leaf.
+ * host:  its four names are read: where a leaf has too many DNS-IDs, only those are given that can match one of them. So the facts
+ *        are for this host alone.
+ * Returns 0 where chain_facts_read does, and where too many DNS-IDs can match.
  */
 int certificate_facts_read(SSL *ssl, X509_STORE *roots, const struct tweedstork_host_facts *host, struct certificate_facts *facts);
 

@@ -198,7 +198,7 @@ static void learn_handshake(const struct scenario_host *host, struct tweedstork_
     printf("  network: established, TLS 1.%" PRIu64 "\n", host->tls_version - TWEEDSTORK_TLS_1_0);
 }
 
-/* TLS: what the server showed, and what the relay's TLS library says of it. */
+/* TLS: what the server showed, and what the relay's TLS library says of it. The names in the leaf are the library's to read. */
 static void learn_certificates(const struct scenario_host *host, struct tweedstork_host_facts *facts)
 {
     facts->certificates_given = TWEEDSTORK_CERTIFICATES_GIVEN;
@@ -208,12 +208,8 @@ static void learn_certificates(const struct scenario_host *host, struct tweedsto
     facts->digests = slice(&host->digests);
     facts->paths = slice(&host->paths);
     facts->trusted_root = host->trusted_root;
-    facts->dns_ids = slice(&host->dns_ids.joined);
-    facts->dns_id_lengths = slice(&host->dns_ids.lengths);
-    facts->common_name_given = host->common_name_given;
-    facts->common_name = slice(&host->common_name);
-    printf("  network: certificates: %zu, DNS-IDs: %zu, trusted root: %s\n", host->certificates.lengths.length / 4,
-           host->dns_ids.lengths.length / 4, host->trusted_root == TWEEDSTORK_YES ? "yes" : "no");
+    printf("  network: certificates: %zu, trusted root: %s\n", host->certificates.lengths.length / 4,
+           host->trusted_root == TWEEDSTORK_YES ? "yes" : "no");
 }
 
 /* Learns the fact that the library asks for. Returns 0 where it asks for none. */
@@ -262,7 +258,7 @@ static int says(const struct scenario_host *host, uint64_t question)
 /* Asks once. Where the expanded next-hop is no name, asks without it: no certificate can have such a name. */
 static uint64_t ask(struct tweedstork_host_facts *facts)
 {
-    uint64_t answer = tweedstork_judge_facts(facts).number;
+    uint64_t answer = tweedstork_judge_facts_certificate(facts).number;
 
     printf("  library %" PRIu64 ": %s\n", answer, tweedstork_answer_words(answer));
     if (answer != TWEEDSTORK_BAD_NEXT_HOP || facts->expanded_next_hop_given == TWEEDSTORK_NO)
@@ -332,7 +328,8 @@ static void leave_out(struct hosts *hosts, size_t position)
 /* May the refusal come of what the domain or the server sent? Then the relay leaves this host out. */
 static int is_theirs(uint64_t refusal)
 {
-    return refusal == TWEEDSTORK_BAD_HOST || refusal == TWEEDSTORK_BAD_TLSA || refusal == TWEEDSTORK_BAD_CERTIFICATES;
+    return refusal == TWEEDSTORK_BAD_HOST || refusal == TWEEDSTORK_BAD_TLSA || refusal == TWEEDSTORK_BAD_CERTIFICATES
+           || refusal == TWEEDSTORK_CERTIFICATE_MALFORMED || refusal == TWEEDSTORK_MANY_DNS_IDS;
 }
 
 /* Tries a host and notes what came of it. Returns the verdict or refusal, or zero where there is neither. */

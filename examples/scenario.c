@@ -122,10 +122,75 @@ static int add_record(struct scenario_tlsa *answer, char **words)
     return read_hex(words[4], &rdata) && append_part(&answer->records, rdata.bytes, rdata.length);
 }
 
+/* Puts bytes before those that are there. */
+static int put_before(struct scenario_bytes *to, const void *bytes, size_t length)
+{
+    if (length > sizeof to->bytes - to->length)
+        return 0;
+    memmove(to->bytes + length, to->bytes, to->length);
+    memcpy(to->bytes, bytes, length);
+    to->length += length;
+    return 1;
+}
+
+/* Makes of the bytes that are there one DER element: puts its tag and its length, in the shortest form, before them. */
+static int wrap(struct scenario_bytes *contents, uint8_t tag)
+{
+    size_t length = contents->length;
+    uint8_t header[4] = {tag, (uint8_t)length, 0, 0};
+
+    if (length < 128)
+        return put_before(contents, header, 2);
+    header[1] = length < 256 ? 0x81 : 0x82;
+    header[2] = (uint8_t)(length < 256 ? length : length >> 8);
+    header[3] = (uint8_t)length;
+    return put_before(contents, header, length < 256 ? 3 : 4);
+}
+
+/* The subject: the common name, where there is one (2.5.4.3). */
+static int make_subject(struct scenario_bytes *subject)
+{
+    static const uint8_t is_common_name[] = {6, 3, 0x55, 4, 3};
+
+    return (subject->length == 0 || (wrap(subject, 12) && put_before(subject, is_common_name, sizeof is_common_name) &&
+                                     wrap(subject, 0x30) && wrap(subject, 0x31))) && wrap(subject, 0x30);
+}
+
+/* The extensions: subjectAltName, where there is a DNS-ID (2.5.29.17). */
+static int make_extensions(struct scenario_bytes *names)
+{
+    static const uint8_t is_alternative_name[] = {6, 3, 0x55, 0x1d, 17};
+
+    return names->length == 0 || (wrap(names, 0x30) && wrap(names, 4) && put_before(names, is_alternative_name, sizeof is_alternative_name) &&
+                                  wrap(names, 0x30) && wrap(names, 0x30) && wrap(names, 0xa3));
+}
+
+/*
+ * The leaf that the server shows: a certificate (RFC 5280, 4.1) with the names of the scenario. All else in it is as short as can be,
+ * the public key info too: a relay has real ones, and their digests, from its TLS library.
+ */
+static int make_leaf(struct scenario_host *host)
+{
+    static const uint8_t before_subject[] = {2, 1, 1, 0x30, 0, 0x30, 0, 0x30, 0}, key_info[] = {0x30, 0};
+    static const uint8_t signature[] = {0x30, 0, 3, 1, 0};
+    struct scenario_bytes leaf = {{0}, 0};
+
+    if (host->certificates.lengths.length == 0)
+        return 1;
+    if (!make_subject(&host->common_name) || !make_extensions(&host->dns_ids) || !append(&leaf, before_subject, sizeof before_subject) ||
+        !append(&leaf, host->common_name.bytes, host->common_name.length) || !append(&leaf, key_info, sizeof key_info) ||
+        !append(&leaf, host->dns_ids.bytes, host->dns_ids.length) || !wrap(&leaf, 0x30) || !append(&leaf, signature, sizeof signature) ||
+        !wrap(&leaf, 0x30))
+        return 0;
+    leaf.length -= host->malformed ? 1 : 0;
+    tweedstork_put_number(host->certificates.lengths.bytes, 0, (uint32_t)leaf.length);
+    return put_before(&host->certificates.joined, leaf.bytes, leaf.length);
+}
+
 /*
  * certificate PATH HEX: one more certificate; does the path from the leaf to it verify, and the SHA-256 of its public key info.
- * A relay has the certificate, its key info and all four digests from its TLS library; here a text stands for the
- * certificate, and the three digests that no record of ours asks for are zero.
+ * A relay has the certificate, its key info and all four digests from its TLS library; here a text stands for a certificate after
+ * the leaf, and the three digests that no record of ours asks for are zero. The leaf is made when all its names are read.
  */
 static int add_certificate(struct scenario_host *host, const char *path, const char *key_sha256)
 {
@@ -133,12 +198,21 @@ static int add_certificate(struct scenario_host *host, const char *path, const c
     static const uint8_t no_digests[96];
     uint64_t verifies;
     size_t before = host->digests.length;
+    int is_leaf = host->certificates.lengths.length == 0;
 
     return choose(path, yes_no, &verifies) && append_number(&host->paths, (uint32_t)verifies) &&
-           append_part(&host->certificates, text, sizeof text - 1) &&
-           append_number(&host->key_places, (uint32_t)(strstr(text, "key") - text)) && append_number(&host->key_places, 3) &&
+           append_part(&host->certificates, text, is_leaf ? 0 : sizeof text - 1) &&
+           (is_leaf || (append_number(&host->key_places, (uint32_t)(strstr(text, "key") - text)) && append_number(&host->key_places, 3))) &&
            append(&host->digests, no_digests, sizeof no_digests) && read_hex(key_sha256, &host->digests) &&
            host->digests.length == before + 96 + 32 && append(&host->digests, no_digests, 64);
+}
+
+/* dns-id NAME: one more DNS-ID of the leaf, as an element of GeneralNames. */
+static int add_dns_id(struct scenario_host *host, const char *name)
+{
+    struct scenario_bytes element = {{0}, 0};
+
+    return append_text(&element, name) && wrap(&element, 0x82) && append(&host->dns_ids, element.bytes, element.length);
 }
 
 /* clock NUMBER: a message begins. */
@@ -179,7 +253,6 @@ static int begin_host(struct scenario_message *m, const char *preference, const 
     m->host_count++;
     host->preference = (uint32_t)number;
     host->trusted_root = TWEEDSTORK_NO;
-    host->common_name_given = TWEEDSTORK_NO;
     return append_text(&host->name, name);
 }
 
@@ -252,10 +325,12 @@ static int read_host_line(struct scenario_host *host, struct scenario_tlsa **tls
     if (strcmp(keyword, "trusted-root") == 0)
         return choose(words[1], yes_no, &host->trusted_root);
     if (strcmp(keyword, "dns-id") == 0)
-        return append_part(&host->dns_ids, words[1], strlen(words[1]));
-    if (strcmp(keyword, "common-name") == 0) {
-        host->common_name_given = TWEEDSTORK_YES;
+        return add_dns_id(host, words[1]);
+    if (strcmp(keyword, "common-name") == 0)
         return append_text(&host->common_name, words[1]);
+    if (strcmp(keyword, "leaf") == 0) {
+        host->malformed = 1;
+        return strcmp(words[1], "malformed") == 0;
     }
     return 0;
 }
@@ -292,6 +367,17 @@ static int read_line(struct scenario *s, struct scenario_tlsa **tlsa, char *text
     return hosts > 0 && read_host_line(&m->hosts[hosts - 1], tlsa, words, count);
 }
 
+/* Makes each host's leaf. Returns 0 where one has no room. */
+static int make_leaves(struct scenario *s)
+{
+    int good = 1;
+
+    for (size_t i = 0; i < s->message_count; i++)
+        for (size_t k = 0; k < s->messages[i].host_count; k++)
+            good = good && make_leaf(&s->messages[i].hosts[k]);
+    return good;
+}
+
 int scenario_read(const char *path, struct scenario *scenario)
 {
     char text[1024];
@@ -314,5 +400,9 @@ int scenario_read(const char *path, struct scenario *scenario)
         fprintf(stderr, "%s, line %u: not understood\n", path, number);
     else if (scenario->message_count == 0)
         fprintf(stderr, "%s: no message\n", path);
-    return good && scenario->message_count > 0;
+    else if (!make_leaves(scenario))
+        fprintf(stderr, "%s: the names of a leaf are too long\n", path);
+    else
+        return 1;
+    return 0;
 }

@@ -33,9 +33,11 @@ struct scenario_host {
     uint64_t address, starttls, handshake, tls_version;
     int lost; /* the connection is lost before EHLO is answered */
     struct scenario_tlsa at_expanded, at_host;
-    struct scenario_parts certificates, dns_ids;
-    struct scenario_bytes key_places, digests, paths, common_name;
-    uint64_t trusted_root, common_name_given;
+    struct scenario_parts certificates;
+    struct scenario_bytes key_places, digests, paths; /* key places: of the certificates after the leaf */
+    struct scenario_bytes dns_ids, common_name;       /* as the leaf has them */
+    uint64_t trusted_root;
+    int malformed;                                    /* the leaf lacks its last byte */
 };
 
 /* What comes of fetching a policy. */

@@ -149,8 +149,7 @@ uint64_t take_size(struct text *rest)
     return size % SMALL;
 }
 
-/* N; after the sign */
-static uint64_t take_count(struct text *rest)
+uint64_t take_count(struct text *rest)
 {
     uint64_t count = take_size(rest);
     if (rest->left > 0 && *rest->at == ';')
@@ -195,6 +194,23 @@ size_t expand(struct text from, struct bytes *to, size_t start, const struct byt
         }
     }
     return times;
+}
+
+void put_output(struct text line, size_t written, struct bytes *output)
+{
+    uint8_t sign = line.left > 0 ? *line.at : 0;
+    size_t size = 0, number;
+    if (sign == '+' || sign == '-') {
+        take_byte(&line);
+        size = written;
+    }
+    number = (size_t)take_size(&line);
+    if (sign == '-')
+        size -= number < size ? number : size;
+    else
+        size += number;
+    for (size_t i = 0; i < size; i++)
+        put(output, (uint8_t)(i * 7 + 3));
 }
 
 /* A change to one number of a list that has some. */

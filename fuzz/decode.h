@@ -41,6 +41,9 @@ uint64_t take_number(struct text *rest);
 /* The same for a size. Large ones cost time, so they count only near a limit of the rules; others are taken modulo 600. */
 uint64_t take_size(struct text *rest);
 
+/* The same, with a semicolon after it. */
+uint64_t take_count(struct text *rest);
+
 /* The hexadecimal digits that come next (small letters), as a number. */
 uint64_t take_hexadecimal(struct text *rest);
 
@@ -59,6 +62,9 @@ uint64_t number_at(const struct bytes *list, size_t i);
  * name, or NULL. Answers how often the item is meant.
  */
 size_t expand(struct text from, struct bytes *to, size_t start, const struct bytes *names);
+
+/* An output of some bytes, of the size that the line has: +N or -N from how many bytes are to be written, or N. */
+void put_output(struct text line, size_t written, struct bytes *output);
 
 /*
  * Changes to finished slices, three bytes each: the slice (a is the first), what is done, and a place or value (a digit is

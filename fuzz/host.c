@@ -1,5 +1,5 @@
 /*
- * The fuzz target of tweedstork_judge_host. A line of an input is a letter, a colon and
+ * The fuzz target of tweedstork_judge_host and tweedstork_judge_host_certificate. A line of an input is a letter, a colon and
  *   c   twelve codes, a character each: expanded_next_hop_given, origin, address, policy_given, tlsa_answers, tlsa1_result,
  *       tlsa2_result, starttls, handshake, certificates_given, trusted_root, common_name_given
  *   k   the clock
@@ -11,6 +11,8 @@
  *       the last bit, - drops the last byte, and any other text is as in decode.h
  *   s   the certificates shown, each ended by a space: path flag, key info's start and length, content. A digit is itself;
  *       start e is the end, E one more; length r is the rest, R one more, w the rest in 32 bits that wrap
+ *   l   the leaf's path flag, and the leaf as der.h has it. It comes before the certificates of s, and where this line is given the
+ *       call that reads the leaf is asked: without the leaf's key place, and without names
  *   d   the DNS-IDs, each ended by a space
  *   m   the common name
  *   e   changes to the slices (decode.h): a next_hop to q common_name, in the header's order
@@ -18,6 +20,7 @@
  * A line of another form stands for nothing. Lines c, k, v, n, a, h and x have defaults (in decode).
  * The digests are no real ones: the rules only compare them.
  */
+#include "der.h"
 #include "target.h"
 
 #include <string.h>
@@ -32,16 +35,19 @@ static const char *const slices[] = {
     "common_name", NULL};
 enum {
     CLOCK, EXPANDED_NEXT_HOP_GIVEN, ORIGIN, ADDRESS, POLICY_GIVEN, FETCHED, TLSA_ANSWERS, TLSA1_RESULT, TLSA2_RESULT, STARTTLS,
-    HANDSHAKE, TLS_VERSION, CERTIFICATES_GIVEN, TRUSTED_ROOT, COMMON_NAME_GIVEN
+    HANDSHAKE, TLS_VERSION, CERTIFICATES_GIVEN, TRUSTED_ROOT, COMMON_NAME_GIVEN, CALL
 };
 static const char *const numbers[] = {
     "clock", "expanded_next_hop_given", "origin", "address", "policy_given", "fetched", "tlsa_answers", "tlsa1_result",
-    "tlsa2_result", "starttls", "handshake", "tls_version", "certificates_given", "trusted_root", "common_name_given", NULL};
+    "tlsa2_result", "starttls", "handshake", "tls_version", "certificates_given", "trusted_root", "common_name_given",
+    "call (1 plain, 2 with the leaf read)", NULL};
+enum { PLAIN = 1, LEAF_READ };
 static const char *const outputs[] = {NULL};
 static const char *const fields[] = {"number", "tlsa_questions", NULL};
 static const uint8_t answers[] = {1,  2,  3,  4,  5,  10, 11, 12, 13, 14, 20, 21, 22, 23, 24, 25, 26,
-                                  27, 28, 50, 52, 53, 54, 55, 56, 57, 60, 61, 62, 64, 65, 66, 67, 0};
+                                  27, 28, 50, 52, 53, 54, 55, 56, 57, 60, 61, 62, 64, 65, 66, 67, 90, 91, 0};
 
+enum { PAIR = 8 }; /* bytes of a start and a length in a list */
 enum { DIGEST_BYTES = 192 }; /* SHA-256 and SHA-512 of the certificate, then of its key info */
 
 /* ---------------------------------------------------------------------------------------------------------- certificates */
@@ -67,25 +73,49 @@ static uint64_t place_of(uint8_t letter, uint8_t at_end, uint64_t end)
     return letter == at_end - ('a' - 'A') ? end + 1 : letter;
 }
 
-static size_t put_certificate(struct text item, struct call *call)
+/* All that is told of the certificate that begins at `before`: its key info has this place. */
+static void put_facts(struct call *call, size_t before, uint8_t path, uint64_t start, uint64_t length)
 {
-    struct bytes *to = &call->slices[CERTIFICATES], *digests = &call->slices[DIGESTS];
-    size_t before = to->length;
-    uint8_t path = take_byte(&item), start_letter = take_byte(&item), length_letter = take_byte(&item);
-    size_t times = expand(item, to, before, call->slices), size = to->length - before;
-    uint64_t start = place_of(start_letter, 'e', size), rest = start < size ? size - start : 0;
-    uint64_t length = length_letter == 'w' ? size - start : place_of(length_letter, 'r', rest);
+    struct bytes *digests = &call->slices[DIGESTS];
+    const uint8_t *content = call->slices[CERTIFICATES].at + before;
+    size_t size = call->slices[CERTIFICATES].length - before;
     int inside = start <= size && length <= size - start;
 
     put_number(&call->slices[CERTIFICATE_LENGTHS], size);
     put_number(&call->slices[PATHS], code_of(path));
     put_number(&call->slices[KEY_PLACES], start);
     put_number(&call->slices[KEY_PLACES], length);
-    put_digest(digests, to->at + before, size, 32);
-    put_digest(digests, to->at + before, size, 64);
-    put_digest(digests, to->at + before + (inside ? start : 0), inside ? length : 0, 32);
-    put_digest(digests, to->at + before + (inside ? start : 0), inside ? length : 0, 64);
+    put_digest(digests, content, size, 32);
+    put_digest(digests, content, size, 64);
+    put_digest(digests, content + (inside ? start : 0), inside ? length : 0, 32);
+    put_digest(digests, content + (inside ? start : 0), inside ? length : 0, 64);
+}
+
+static size_t put_certificate(struct text item, struct call *call)
+{
+    struct bytes *to = &call->slices[CERTIFICATES];
+    size_t before = to->length;
+    uint8_t path = take_byte(&item), start_letter = take_byte(&item), length_letter = take_byte(&item);
+    size_t times = expand(item, to, before, call->slices), size = to->length - before;
+    uint64_t start = place_of(start_letter, 'e', size), rest = start < size ? size - start : 0;
+    put_facts(call, before, path, start, length_letter == 'w' ? size - start : place_of(length_letter, 'r', rest));
     return times;
+}
+
+/* Its key info is where the independent implementation reads it. */
+static void put_leaf(struct text line, struct call *call)
+{
+    uint8_t path = take_byte(&line), places[TWEEDSTORK_PLACES_ROOM];
+    put_der(line, &call->slices[CERTIFICATES], call->slices);
+    struct tweedstork_certificate_answer read = independent_read_certificate(LENT(call, CERTIFICATES), places, sizeof places);
+    put_facts(call, 0, path, read.key_start, read.key_length);
+}
+
+/* Once the records are made, the leaf's key place is not given. */
+static void drop_leaf_place(struct bytes *places)
+{
+    places->length -= PAIR;
+    memmove(places->at, places->at + PAIR, places->length);
 }
 
 /* --------------------------------------------------------------------------------------------------------------- records */
@@ -222,27 +252,43 @@ static void decode(struct text input, struct call *call)
     expand(lines['a'], &call->slices[EXPANDED_NEXT_HOP], 0, call->slices);
     expand(lines['h'], &call->slices[HOST], 0, call->slices);
     expand(lines['x'], &call->slices[EXPANDED], 0, call->slices);
+    call->numbers[CALL] = lines['l'].at == NULL ? PLAIN : LEAF_READ;
+    if (call->numbers[CALL] == LEAF_READ)
+        put_leaf(lines['l'], call);
     put_certificates(lines['s'], call);
     put_items(lines['1'], call, TLSA1_RECORDS, TLSA1_LENGTHS, 1);
     put_items(lines['2'], call, TLSA2_RECORDS, TLSA2_LENGTHS, 1);
-    put_items(lines['d'], call, DNS_IDS, DNS_ID_LENGTHS, 0);
-    expand(lines['m'], &call->slices[COMMON_NAME], 0, call->slices);
+    if (call->numbers[CALL] == LEAF_READ) {
+        drop_leaf_place(&call->slices[KEY_PLACES]);
+    } else {
+        put_items(lines['d'], call, DNS_IDS, DNS_ID_LENGTHS, 0);
+        expand(lines['m'], &call->slices[COMMON_NAME], 0, call->slices);
+    }
     expand(lines['p'], &call->slices[POLICY], 0, call->slices);
     edit(lines['e'], call->slices, SLICES);
 }
 
+/* The arguments that both calls have, in their order. */
+#define SHARED(call, n)                                                                                                 \
+    (n)[CLOCK], LENT(call, NEXT_HOP), (n)[EXPANDED_NEXT_HOP_GIVEN], LENT(call, EXPANDED_NEXT_HOP), (n)[ORIGIN],         \
+        LENT(call, HOST), (n)[ADDRESS], LENT(call, EXPANDED), (n)[POLICY_GIVEN], LENT(call, POLICY), (n)[FETCHED],      \
+        (n)[TLSA_ANSWERS], (n)[TLSA1_RESULT], LENT(call, TLSA1_LENGTHS), LENT(call, TLSA1_RECORDS),                     \
+        (n)[TLSA2_RESULT], LENT(call, TLSA2_LENGTHS), LENT(call, TLSA2_RECORDS),                                        \
+        (n)[STARTTLS], (n)[HANDSHAKE], (n)[TLS_VERSION], (n)[CERTIFICATES_GIVEN], LENT(call, CERTIFICATES),             \
+        LENT(call, CERTIFICATE_LENGTHS), LENT(call, KEY_PLACES), LENT(call, DIGESTS), LENT(call, PATHS), (n)[TRUSTED_ROOT]
+
 static void ask(int independent, const struct call *call, uint64_t *answer)
 {
     __typeof__(tweedstork_judge_host) *judge_host = independent ? independent_judge_host : tweedstork_judge_host;
+    __typeof__(tweedstork_judge_host_certificate) *judge_host_certificate =
+        independent ? independent_judge_host_certificate : tweedstork_judge_host_certificate;
     const uint64_t *n = call->numbers;
-    struct tweedstork_host_answer a = judge_host(
-        n[CLOCK], LENT(call, NEXT_HOP), n[EXPANDED_NEXT_HOP_GIVEN], LENT(call, EXPANDED_NEXT_HOP),
-        n[ORIGIN], LENT(call, HOST), n[ADDRESS], LENT(call, EXPANDED), n[POLICY_GIVEN], LENT(call, POLICY), n[FETCHED], n[TLSA_ANSWERS],
-        n[TLSA1_RESULT], LENT(call, TLSA1_LENGTHS), LENT(call, TLSA1_RECORDS),
-        n[TLSA2_RESULT], LENT(call, TLSA2_LENGTHS), LENT(call, TLSA2_RECORDS),
-        n[STARTTLS], n[HANDSHAKE], n[TLS_VERSION], n[CERTIFICATES_GIVEN],
-        LENT(call, CERTIFICATES), LENT(call, CERTIFICATE_LENGTHS), LENT(call, KEY_PLACES), LENT(call, DIGESTS), LENT(call, PATHS),
-        n[TRUSTED_ROOT], LENT(call, DNS_IDS), LENT(call, DNS_ID_LENGTHS), n[COMMON_NAME_GIVEN], LENT(call, COMMON_NAME));
+    struct tweedstork_host_answer a;
+    if (n[CALL] == LEAF_READ)
+        a = judge_host_certificate(SHARED(call, n));
+    else
+        a = judge_host(
+            SHARED(call, n), LENT(call, DNS_IDS), LENT(call, DNS_ID_LENGTHS), n[COMMON_NAME_GIVEN], LENT(call, COMMON_NAME));
     answer[0] = a.number;
     answer[1] = a.tlsa_questions;
 }

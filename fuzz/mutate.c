@@ -1,7 +1,7 @@
 /*
  * How inputs are changed. The fuzzer's own changes mostly break what a line says; since inputs are lines of text full of
- * digits (codes, sizes, versions, records, preferences), half of the changes are of a digit, a line, an item or the length of a
- * word, and an input may take a line from another that has it too.
+ * digits (codes, sizes, versions, records, preferences), half of the changes are of a digit, a line, an item, an element of a
+ * certificate or the length of a word, and an input may take a line from another that has it too.
  */
 #include "decode.h"
 
@@ -36,6 +36,28 @@ static struct part part_around(const uint8_t *data, size_t size, size_t at, uint
     return part;
 }
 
+/* An element of der.h around a place, from its tag to its closing bracket; a part without bytes where there is none. */
+static struct part element_around(const uint8_t *data, size_t size, size_t at)
+{
+    size_t start = at, depth = 0;
+    while (start > 0 && data[start] != '(')
+        start--;
+    for (size_t end = start; start >= 2 && end < size; end++) {
+        depth += data[end] == '(';
+        depth -= data[end] == ')';
+        if (depth == 0)
+            return (struct part){start - 2, end + 1 - (start - 2)};
+    }
+    return (struct part){at, 0};
+}
+
+/* A line, an item, or where `end` is an opening bracket an element. */
+static struct part some_part(const uint8_t *data, size_t size, uint8_t end)
+{
+    size_t at = below(size);
+    return end == '(' ? element_around(data, size, at) : part_around(data, size, at, end);
+}
+
 /* Puts bytes in the place of a part; as it was where there is no room. */
 static size_t replace(uint8_t *data, size_t size, size_t most, struct part part, const uint8_t *bytes, size_t length)
 {
@@ -57,12 +79,12 @@ static size_t change_digit(uint8_t *data, size_t size, size_t at)
     return size;
 }
 
-/* A line or an item is doubled, dropped, or put in another place. */
+/* A line, an item or an element is doubled, dropped, or put in another place. */
 static size_t move_part(uint8_t *data, size_t size, size_t most, uint8_t end)
 {
     enum { ROOM = 512 };
     uint8_t copy[ROOM];
-    struct part part = part_around(data, size, below(size), end);
+    struct part part = some_part(data, size, end);
     uint32_t choice = below(3);
     if (part.length > ROOM)
         return size;
@@ -73,7 +95,7 @@ static size_t move_part(uint8_t *data, size_t size, size_t most, uint8_t end)
         return size;
     struct part place = {part.start, 0};
     if (size > 0)
-        place.start = part_around(data, size, below(size), end).start;
+        place.start = some_part(data, size, end).start;
     return replace(data, size, most, place, copy, part.length);
 }
 
@@ -111,6 +133,8 @@ size_t LLVMFuzzerCustomMutator(uint8_t *data, size_t size, size_t most, unsigned
         return change_digit(data, size, below(size));
     if (choice == 2)
         return resize_word(data, size, most, below(size));
+    if (memchr(data, '(', size) != NULL && below(3) > 0)
+        return move_part(data, size, most, '(');
     return move_part(data, size, most, below(2) ? '\n' : ' ');
 }
 

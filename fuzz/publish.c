@@ -75,23 +75,6 @@ static size_t to_be_written(const struct call *call)
     return (size_t)answer[1];
 }
 
-static void put_output(struct text line, struct call *call)
-{
-    uint8_t sign = line.left > 0 ? *line.at : 0;
-    size_t size = 0, number;
-    if (sign == '+' || sign == '-') {
-        take_byte(&line);
-        size = to_be_written(call);
-    }
-    number = (size_t)take_size(&line);
-    if (sign == '-')
-        size -= number < size ? number : size;
-    else
-        size += number;
-    for (size_t i = 0; i < size; i++)
-        put(&call->slices[OUTPUT], (uint8_t)(i * 7 + 3));
-}
-
 static void decode(struct text input, struct call *call)
 {
     struct text size = take(&input, '\n'), edits = take(&input, '\n');
@@ -99,7 +82,7 @@ static void decode(struct text input, struct call *call)
     call->numbers[CALL] = letter == 't' ? TXT : letter == 'r' ? REWRITE : POLICY;
     put_arguments(input, call);
     edit(edits, call->slices, OUTPUT);
-    put_output(size, call);
+    put_output(size, to_be_written(call), &call->slices[OUTPUT]);
 }
 
 const struct target target = {"publish", answers, numbers, slices, fields, outputs, NULL, decode, NULL, ask};

@@ -40,20 +40,6 @@ static size_t put_record(struct text line, struct call *call, size_t *joined)
     return times;
 }
 
-static void put_output(struct text line, struct call *call, size_t joined)
-{
-    uint8_t sign = line.left > 0 ? *line.at : 0;
-    if (sign == '+' || sign == '-')
-        take_byte(&line);
-    size_t number = (size_t)take_size(&line), size = number;
-    if (sign == '+')
-        size = joined + number;
-    if (sign == '-')
-        size = joined < number ? 0 : joined - number;
-    for (size_t i = 0; i < size; i++)
-        put(&call->slices[OUTPUT], (uint8_t)(i * 7 + 3));
-}
-
 static void decode(struct text input, struct call *call)
 {
     struct text size = take(&input, '\n'), edits = take(&input, '\n');
@@ -66,7 +52,7 @@ static void decode(struct text input, struct call *call)
         for (size_t i = 1; i < times; i++)
             put_record(line, call, &joined);
     }
-    put_output(size, call, longest);
+    put_output(size, longest, &call->slices[OUTPUT]);
     edit(edits, call->slices, SLICES);
 }
 

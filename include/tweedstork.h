@@ -14,7 +14,9 @@
  * - it keeps a policy only where the relay lends it a table for that (tweedstork_cache_store), and asks for no parent domain's
  *   policy;
  * - it does not read the MX answer: null MX and a domain that does not exist are the relay's (see tweedstork_next_host);
- * - it does not read certificates: the relay says where the key info stands and which names and digests there are.
+ * - of certificates it reads the leaf's names and the place of its key info, where it is asked to
+ *   (tweedstork_judge_host_certificate, tweedstork_read_certificate): whether a signature verifies or a certificate is expired,
+ *   the relay says.
  *
  * Where it departs from the RFCs, or from what other mail servers do:
  * - where DANE and MTA-STS are both needed, both must pass: a good record 3 1 1 beside an enforce policy and a self-signed
@@ -28,6 +30,8 @@
  * - usage 2 never matches the leaf, self-signed or not (as long as the relay gives no path to a copy of it);
  * - an underscore is no part of a name (60, 61), also in an expanded name that no rule reads;
  * - a SHA-256 record still counts beside a SHA-512 one (digest agility, RFC 7672, 5): it will be added;
+ * - where the library reads the leaf itself, one that is malformed or has over 64 DNS-IDs is refused (90, 91), also where a record
+ *   of usage 3 would match it; TLS libraries let some of that pass;
  * - a policy with an empty last line is refused (53), as the RFC's grammar has it; some readers let it pass.
  *
  * Conventions
@@ -40,8 +44,9 @@
  *   either end of a label, no dot at the end (cut off the one that resolvers print). Case doesn't matter; an international
  *   name is given as A-labels (xn--).
  * - An answer is a struct; its first field is the answer number, one of enum tweedstork_number. It is never zero.
- * - A refusal (40 to 83) has zero in every other field, but for the line and offset of 53 to 57 (see tweedstork_read_policy), and
- *   leaves the memory that you passed as it was, but for 42 (see tweedstork_read_txt).
+ * - A refusal (40 to 91) has zero in every other field, but for the line and offset of 53 to 57 (see tweedstork_read_policy) and
+ *   the offset of 90 (see tweedstork_read_certificate), and leaves the memory that you passed as it was, but for 42 (see
+ *   tweedstork_read_txt).
  * - No call keeps a pointer, allocates or has state. Calls may run on any number of threads at once, but for a store into a
  *   cache: it is alone with its table and texts.
  */
@@ -56,8 +61,8 @@ extern "C" {
 #endif
 
 /* The version of this header. A number that another version gave a meaning to is never given a second one. */
-#define TWEEDSTORK_VERSION "1.6.0"
-#define TWEEDSTORK_VERSION_NUMBER 10600 /* major * 10000 + minor * 100 + patch */
+#define TWEEDSTORK_VERSION "1.7.0"
+#define TWEEDSTORK_VERSION_NUMBER 10700 /* major * 10000 + minor * 100 + patch */
 
 /* The version of the archive. It equals TWEEDSTORK_VERSION_NUMBER where header and archive belong together. */
 uint64_t tweedstork_version(void);
@@ -144,7 +149,10 @@ enum tweedstork_number {
                                                a name nor '*.' and a name, or lengths (four bytes each, big-endian) that do not
                                                sum */
     TWEEDSTORK_BAD_LIFETIME = 82,           /* refused: a lifetime above 31,557,600 */
-    TWEEDSTORK_OUTPUT_SHORT = 83            /* refused: the output is too short for what would be written */
+    TWEEDSTORK_OUTPUT_SHORT = 83,           /* refused: the output is too short for what would be written */
+    TWEEDSTORK_CERTIFICATE_MALFORMED = 90,  /* refused: the certificate has an element whose header is not DER's, that runs past
+                                               what holds it, that is over 16 deep, or that is misplaced or missing */
+    TWEEDSTORK_MANY_DNS_IDS = 91            /* refused: the certificate has over 64 DNS-IDs */
 };
 
 /* An answer number in words: its sentence in enum tweedstork_number; for any other number, that it is none. Never NULL. */
@@ -227,6 +235,10 @@ static inline const char *tweedstork_answer_words(uint64_t number)
                "or lengths (four bytes each, big-endian) that do not sum";
     case TWEEDSTORK_BAD_LIFETIME: return "refused: a lifetime above 31,557,600";
     case TWEEDSTORK_OUTPUT_SHORT: return "refused: the output is too short for what would be written";
+    case TWEEDSTORK_CERTIFICATE_MALFORMED:
+        return "refused: the certificate has an element whose header is not DER's, that runs past what holds it, that is over "
+               "16 deep, or that is misplaced or missing";
+    case TWEEDSTORK_MANY_DNS_IDS: return "refused: the certificate has over 64 DNS-IDs";
     default: return "no answer number; zero is none, and means that nobody answered";
     }
 }
@@ -471,7 +483,9 @@ struct tweedstork_host_answer {
  * May the relay deliver to this host, and how? Or what must it learn next?
  *
  * The relay calls with what it knows, learns the fact that the answer asks for, and calls again, until the answer is a verdict.
- * tweedstork_judge_facts takes the same by name.
+ * tweedstork_judge_facts takes the same by name. Here the relay, or its TLS library, reads the names of the leaf and where its key
+ * info stands; tweedstork_judge_host_certificate reads both itself, and is the one to take unless the relay has to deliver to
+ * servers whose leaf that call refuses.
  *
  * Takes:   in every call: clock (seconds since 1970), next_hop (the name that the MX lookup was made for, or the configured
  *          host where none was), expanded_next_hop_given (yes/no: TWEEDSTORK_YES where the next-hop is an alias) and
@@ -576,6 +590,140 @@ struct tweedstork_host_answer tweedstork_judge_host(
     const uint8_t *dns_id_lengths, size_t dns_id_lengths_length,
     uint64_t common_name_given,
     const uint8_t *common_name, size_t common_name_length);
+
+/* How many bytes of places are always enough: 16 for each of 64 DNS-IDs. */
+enum { TWEEDSTORK_PLACES_ROOM = 1024 };
+
+struct tweedstork_certificate_answer {
+    uint64_t number;
+    uint64_t length;                        /* how many bytes were written to places: 16 for each DNS-ID */
+    uint64_t offset;                        /* under 90: where the first element that offends begins, in bytes from 0 */
+    uint64_t key_start;
+    uint64_t key_length;
+    uint64_t dns_id_count;
+    uint64_t common_name_given;             /* TWEEDSTORK_YES or TWEEDSTORK_NO */
+    uint64_t common_name_start;
+    uint64_t common_name_length;
+};
+
+/*
+ * What does a certificate say: its DNS-IDs in order, its common name, and where its public key info stands?
+ *
+ * Takes:   certificate: its DER (X.690), of any length; this call has no limit of size. places: memory that the places of the
+ *          DNS-IDs are written into; it must not overlap the certificate. TWEEDSTORK_PLACES_ROOM bytes are always enough.
+ * Answers: TWEEDSTORK_DONE. Names and key info come back as parts of the certificate, each by its start and its length:
+ *          - the DNS-IDs: the dNSName entries of subjectAltName, dns_id_count of them, in their order. One may be empty. The start
+ *            and the length of each stand in places, eight bytes each, big-endian (lists of numbers have four bytes for each);
+ *            tweedstork_dns_id reads them. length is 16 for each DNS-ID;
+ *          - the common name: common_name_given (yes/no), and with TWEEDSTORK_YES the contents of its value, whatever its type,
+ *            common_name_length bytes from common_name_start on; of several in the subject the last. It may be empty. With
+ *            TWEEDSTORK_NO start and length are 0;
+ *          - the SubjectPublicKeyInfo with its header: key_length bytes from key_start on.
+ *
+ *          Nothing is told of signatures, of dates or of what else stands in it. A name may have any bytes, zeros too: show it to
+ *          people with what does not print made visible (examples/certificate.c).
+ *
+ *          Refusals, in this order: TWEEDSTORK_CERTIFICATE_MALFORMED with its offset, TWEEDSTORK_MANY_DNS_IDS,
+ *          TWEEDSTORK_OUTPUT_SHORT (places has under 16 bytes for each DNS-ID).
+ *
+ *          90 comes with the offset of the first element that offends, the one at the lowest offset:
+ *          - its header is of another form: a tag of several bytes, or a length that is indefinite, not in its shortest form, or
+ *            cut off;
+ *          - it runs past the end of what holds it;
+ *          - it is nested over 16 deep, the certificate being 1. All constructed elements are walked, also those that no answer
+ *            reads; and the value of subjectAltName, one level below the octet string that holds it, but no other string;
+ *          - it is misplaced: a field of Certificate, TBSCertificate, subject, Extension or GeneralNames has not the tag or the
+ *            order that RFC 5280 gives it (4.1, 4.2 and 4.2.1.6), or an explicit tag holds not just one element. Lists may be
+ *            empty. One that is missing is misplaced where it should begin, bytes left over where they begin, and a second
+ *            subjectAltName at its Extension. Elsewhere any element may stand.
+ * Leaves:  with TWEEDSTORK_DONE the places at the front of places and the rest of it as it was. A refusal leaves everything as it
+ *          was.
+ */
+struct tweedstork_certificate_answer tweedstork_read_certificate(
+    const uint8_t *certificate, size_t certificate_length,
+    uint8_t *places, size_t places_length);
+
+/*
+ * May the relay deliver to this host, and how, where the library reads the leaf itself? Or what must it learn next?
+ *
+ * This is tweedstork_judge_host with the names and the place of the key info that tweedstork_read_certificate reads in the first
+ * certificate, the leaf: no other library has to be trusted with them. tweedstork_judge_facts_certificate takes the same by name.
+ *
+ * Takes:   the arguments of tweedstork_judge_host in its order, without dns_ids, dns_id_lengths, common_name_given and common_name.
+ *          And key_places has no pair for the leaf: list of numbers, two for each certificate after the leaf. All other lists
+ *          begin with the leaf. The digests of its key info, too, are the relay's: of the bytes that tweedstork_read_certificate
+ *          names.
+ *
+ *          With OpenSSL 3, on the client's side and after the handshake, the certificate at place i is added so (examples/openssl.c
+ *          has all of it, with the limits and the paths):
+ *
+ *              X509 *one = sk_X509_value(SSL_get_peer_cert_chain(ssl), i);
+ *              uint8_t *start = bytes + length, *end = start, *to;
+ *              uint8_t places[TWEEDSTORK_PLACES_ROOM];
+ *              size_t size = i2d_X509(one, &end); // there is room
+ *              struct tweedstork_certificate_answer read;
+ *
+ *              read = tweedstork_read_certificate(start, size,
+ *                                                 places, sizeof places);
+ *              tweedstork_put_number(lengths, i, size);
+ *              if (i > 0) { // the leaf has no pair
+ *                  to = key_places + 8 * (i - 1);
+ *                  tweedstork_put_number(to, 0, read.key_start);
+ *                  tweedstork_put_number(to, 1, read.key_length);
+ *              }
+ *              to = digests + 192 * i; // SHA-256, SHA-512
+ *              digest(to, start, size);
+ *              digest(to + 96, start + read.key_start, read.key_length);
+ *              tweedstork_put_number(paths, i, path_leads_to(i));
+ *              length += size;
+ *
+ *          SSL_get_peer_cert_chain has what the server sent, leaf first; SSL_get1_peer_certificate has the leaf alone. Where
+ *          read.number is not TWEEDSTORK_DONE, a certificate after the leaf is left out, by which a match can be lost and none
+ *          made; the leaf stays, with any digests, since this call then refuses it.
+ * Answers: what tweedstork_judge_host answers on what is read. (That a question comes only while its fact can still change the
+ *          verdict is claimed of that call alone.)
+ *
+ *          Refusals, in this order: those of tweedstork_judge_host up to TWEEDSTORK_BAD_CERTIFICATES, as far as that speaks of
+ *          the certificates, their lengths, key places, digests and paths; TWEEDSTORK_CERTIFICATE_MALFORMED and
+ *          TWEEDSTORK_MANY_DNS_IDS of the leaf; TWEEDSTORK_BAD_CERTIFICATES where a DNS-ID or the common name of the leaf has over
+ *          255 bytes; and last TWEEDSTORK_FACT_MISSING.
+ *          - The leaf is read wherever certificates are given, also where no rule comes to it: 90 comes before a verdict such as
+ *            20 or 2. So give them only when they are asked for (12). Without certificates given, or with an empty list, nothing
+ *            is read, and there are no names.
+ *          - 90 and 91 come of what the server sent: the relay leaves this host out and goes on with the others. To see what is
+ *            wrong with the leaf, ask tweedstork_read_certificate for the offset.
+ *          - For all others see tweedstork_judge_host. A refusal is never a permission to deliver.
+ * Leaves:  all memory as it was.
+ */
+struct tweedstork_host_answer tweedstork_judge_host_certificate(
+    uint64_t clock,
+    const uint8_t *next_hop, size_t next_hop_length,
+    uint64_t expanded_next_hop_given,
+    const uint8_t *expanded_next_hop, size_t expanded_next_hop_length,
+    uint64_t origin,
+    const uint8_t *host, size_t host_length,
+    uint64_t address,
+    const uint8_t *expanded, size_t expanded_length,
+    uint64_t policy_given,
+    const uint8_t *policy, size_t policy_length,
+    uint64_t fetched,
+    uint64_t tlsa_answers,
+    uint64_t tlsa1_result,
+    const uint8_t *tlsa1_lengths, size_t tlsa1_lengths_length,
+    const uint8_t *tlsa1_records, size_t tlsa1_records_length,
+    uint64_t tlsa2_result,
+    const uint8_t *tlsa2_lengths, size_t tlsa2_lengths_length,
+    const uint8_t *tlsa2_records, size_t tlsa2_records_length,
+    uint64_t starttls,
+    uint64_t handshake,
+    uint64_t tls_version,
+    uint64_t certificates_given,
+    const uint8_t *certificates, size_t certificates_length,
+    const uint8_t *certificate_lengths, size_t certificate_lengths_length,
+    const uint8_t *key_places, size_t key_places_length,
+    const uint8_t *digests, size_t digests_length,
+    const uint8_t *paths, size_t paths_length,
+    uint64_t trusted_root);
 
 struct tweedstork_message_answer {
     uint64_t number;
@@ -698,17 +846,36 @@ struct tweedstork_slice {
     size_t length;
 };
 
+/*
+ * The DNS-ID at its place, counted from 0 and below dns_id_count, of a certificate that tweedstork_read_certificate read: a part of
+ * the certificate, with no zero byte behind it. places is what that call wrote.
+ */
+static inline struct tweedstork_slice tweedstork_dns_id(const uint8_t *certificate, const uint8_t *places, size_t place)
+{
+    struct tweedstork_slice dns_id;
+    uint64_t start = 0, length = 0;
+    size_t i;
+
+    for (i = 16 * place; i < 16 * place + 8; i++) {
+        start = start << 8 | places[i];
+        length = length << 8 | places[i + 8];
+    }
+    dns_id.bytes = certificate + start;
+    dns_id.length = (size_t)length;
+    return dns_id;
+}
+
 struct tweedstork_tlsa_answer {
     uint64_t result;                        /* enum tweedstork_tlsa_result */
     struct tweedstork_slice lengths, records;
 };
 
 /*
- * The arguments of tweedstork_judge_host by name. A new struct for each host, all zero: TLSA answers left over from another host
- * would count as this one's. A fact that isn't learnt yet stays zero; zero is never "no", so a question that comes twice running
- * means that its fact was left zero. Never zero are expanded_next_hop_given, origin, address and policy_given (67); nor, once
- * certificates are given, trusted_root and common_name_given (67); nor, once the handshake is established, tls_version (28 where
- * authentication is needed).
+ * The arguments of tweedstork_judge_host by name, and of tweedstork_judge_host_certificate. A new struct for each host, all zero:
+ * TLSA answers left over from another host would count as this one's. A fact that isn't learnt yet stays zero; zero is never "no",
+ * so a question that comes twice running means that its fact was left zero. Never zero are expanded_next_hop_given, origin, address
+ * and policy_given (67); nor, once certificates are given, trusted_root and, for tweedstork_judge_facts, common_name_given (67);
+ * nor, once the handshake is established, tls_version (28 where authentication is needed).
  *
  * No call can refuse these: with a policy fetched is never zero (the policy would be stale), a secure TLSA answer has all its
  * records (without them it is the same as absent), clock is never zero (every policy would stay live), tls_version is what the
@@ -736,7 +903,7 @@ struct tweedstork_host_facts {
     uint64_t certificates_given;            /* enum tweedstork_certificates_given */
     struct tweedstork_slice certificates, certificate_lengths, key_places, digests, paths;
     uint64_t trusted_root;                  /* TWEEDSTORK_YES or TWEEDSTORK_NO */
-    struct tweedstork_slice dns_ids, dns_id_lengths;
+    struct tweedstork_slice dns_ids, dns_id_lengths; /* these and the next two: not for tweedstork_judge_facts_certificate */
     uint64_t common_name_given;             /* TWEEDSTORK_YES or TWEEDSTORK_NO */
     struct tweedstork_slice common_name;
 };
@@ -783,6 +950,44 @@ static inline struct tweedstork_host_answer tweedstork_judge_facts(const struct 
 }
 
 /*
+ * May the relay deliver to this host, and how, where the library reads the leaf itself? Or what must it learn next? This is
+ * tweedstork_judge_host_certificate on these facts: dns_ids, dns_id_lengths, common_name_given and common_name are not looked at,
+ * and key_places has no pair for the leaf. With one, as tweedstork_judge_facts wants it, the facts are refused (65).
+ */
+static inline struct tweedstork_host_answer tweedstork_judge_facts_certificate(const struct tweedstork_host_facts *facts)
+{
+    return tweedstork_judge_host_certificate(
+        facts->clock,
+        facts->next_hop.bytes, facts->next_hop.length,
+        facts->expanded_next_hop_given,
+        facts->expanded_next_hop.bytes, facts->expanded_next_hop.length,
+        facts->origin,
+        facts->host.bytes, facts->host.length,
+        facts->address,
+        facts->expanded.bytes, facts->expanded.length,
+        facts->policy_given,
+        facts->policy.bytes, facts->policy.length,
+        facts->fetched,
+        facts->tlsa_answers,
+        facts->tlsa[0].result,
+        facts->tlsa[0].lengths.bytes, facts->tlsa[0].lengths.length,
+        facts->tlsa[0].records.bytes, facts->tlsa[0].records.length,
+        facts->tlsa[1].result,
+        facts->tlsa[1].lengths.bytes, facts->tlsa[1].lengths.length,
+        facts->tlsa[1].records.bytes, facts->tlsa[1].records.length,
+        facts->starttls,
+        facts->handshake,
+        facts->tls_version,
+        facts->certificates_given,
+        facts->certificates.bytes, facts->certificates.length,
+        facts->certificate_lengths.bytes, facts->certificate_lengths.length,
+        facts->key_places.bytes, facts->key_places.length,
+        facts->digests.bytes, facts->digests.length,
+        facts->paths.bytes, facts->paths.length,
+        facts->trusted_root);
+}
+
+/*
  * May the verdict still hang on the certificates that the server will show? Asked before the handshake. With 0 the relay may
  * offer anonymous ciphers (RFC 7672, 8.2) and need not keep the certificates; with 1 it offers none, since a server that has a
  * certificate may still choose such a cipher, and then shows none (26 or 27).
@@ -795,7 +1000,8 @@ static inline struct tweedstork_host_answer tweedstork_judge_facts(const struct 
  * 1 where tweedstork_judge_host would ask for certificate facts (12) were the handshake established at TLS 1.2 or above; and where
  * a TLSA answer is not learnt yet, since its records may need them. 0 where the verdict is the same whatever the server shows; and
  * where facts are refused, since no verdict comes of them at all: see first that tweedstork_judge_facts refuses nothing. What the
- * facts say of STARTTLS, handshake, version of TLS and certificates is not read.
+ * facts say of STARTTLS, handshake, version of TLS and certificates is not read, so it is the same whichever of the two calls
+ * judges the host.
  */
 static inline int tweedstork_certificates_matter(const struct tweedstork_host_facts *facts)
 {

@@ -488,7 +488,8 @@ function put_types(own,   said, all, count, i, t, is_named, more, begun) {
 
 function write_page(own,   said, i, others) {
     page = own ".3"
-    put(".TH " toupper(own) " 3 \"\" \"tweedstork " version "\" \"Library calls\"")
+    # The name stands at either end of a page's head: a long one leaves no room between.
+    put(".TH " toupper(own) " 3 \"\" \"tweedstork " version "\" \"" (length(own) > 29 ? "" : "Library calls") "\"")
     put(".nh") # no name is to be broken
     put(".ad l")
     put(".SH NAME")

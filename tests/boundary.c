@@ -1,7 +1,8 @@
 /*
  * The boundary as a C program meets it: layouts, empty slices as NULL, slices that end where their memory ends, and
  * memory left as it was. What each call answers is the proofs' matter, and the cases' of crates/vectors; here a few of
- * document 01's are asked once more through C. The cache calls are in tests/cache.c, those that publish in tests/publish.c.
+ * document 01's are asked once more through C. The cache calls are in tests/cache.c, those that publish in tests/publish.c, those
+ * that read a certificate in tests/reader.c and tests/leaf.c.
  */
 #define _DEFAULT_SOURCE /* for memory() of expect.h */
 #include <inttypes.h>
@@ -192,16 +193,26 @@ static void policies_of_many_lines(void)
     offends("line 1,001 of many", body, sizeof body, TWEEDSTORK_POLICY_BAD_MX, 1001, 4000);
 }
 
-/* A host with an insecure address, no policy and nothing learnt; what isn't supplied is NULL. */
+/*
+ * A host with an insecure address, no policy and nothing learnt; what isn't supplied is NULL. Without a leaf the call that would read
+ * it answers the same.
+ */
 static struct tweedstork_host_answer judge(uint64_t clock, const char *host, uint64_t address, uint64_t starttls, uint64_t certificates_given)
 {
     size_t length = strlen(host);
     uint8_t *name = memory(length);
+    struct tweedstork_host_answer answer, by_leaf;
     memcpy(name, host, length);
-    return tweedstork_judge_host(
+    answer = tweedstork_judge_host(
         clock, name, length, TWEEDSTORK_NO, NULL, 0, TWEEDSTORK_NO_MX, name, length, address, NULL, 0, TWEEDSTORK_NO_POLICY, NULL, 0, UINT64_MAX,
         0, UINT64_MAX, NULL, 0, NULL, 0, UINT64_MAX, NULL, 0, NULL, 0, starttls, TWEEDSTORK_HANDSHAKE_NOT_GIVEN, UINT64_MAX, certificates_given,
         NULL, 0, NULL, 0, NULL, 0, NULL, 0, NULL, 0, TWEEDSTORK_NO, NULL, 0, NULL, 0, TWEEDSTORK_NO, NULL, 0);
+    by_leaf = tweedstork_judge_host_certificate(
+        clock, name, length, TWEEDSTORK_NO, NULL, 0, TWEEDSTORK_NO_MX, name, length, address, NULL, 0, TWEEDSTORK_NO_POLICY, NULL, 0, UINT64_MAX,
+        0, UINT64_MAX, NULL, 0, NULL, 0, UINT64_MAX, NULL, 0, NULL, 0, starttls, TWEEDSTORK_HANDSHAKE_NOT_GIVEN, UINT64_MAX, certificates_given,
+        NULL, 0, NULL, 0, NULL, 0, NULL, 0, NULL, 0, TWEEDSTORK_NO);
+    expect("the call that reads the leaf, without one", answer.number == by_leaf.number && answer.tlsa_questions == by_leaf.tlsa_questions);
+    return answer;
 }
 
 static void judged(const char *name, struct tweedstork_host_answer answer, uint64_t number, uint64_t questions)

@@ -4,6 +4,7 @@
 
 #include <openssl/err.h>
 #include <openssl/x509v3.h>
+#include <stdint.h>
 #include <stdio.h>
 #include <stdlib.h>
 #include <string.h>
@@ -14,16 +15,17 @@
 static void need(const char *what, int is_there)
 {
     if (!is_there) {
-        printf("openssl: the test could not make %s\n", what);
+        printf("the test could not make %s\n", what);
         ERR_print_errors_fp(stdout);
         exit(2);
     }
 }
 
-/* A certificate and its key. All are kept until the end. */
+/* A certificate and its key, and what the library refuses it with where it reads the leaf itself, or 0. All are kept until the end. */
 struct made {
     X509 *certificate;
     EVP_PKEY *key;
+    uint64_t refused;
 };
 
 static struct made kept[100];

@@ -1,7 +1,8 @@
 /*
- * The header's own C: the words, the lists of numbers, the server name, and tweedstork_judge_facts, which must hand each field
- * to the argument of its name, with tweedstork_certificates_matter, which asks by it. To see that, this program is linked
- * without the archive and has a tweedstork_judge_host of its own, which notes its arguments and answers what a test wants.
+ * The header's own C: the words, the lists of numbers, the places of DNS-IDs, the server name, and tweedstork_judge_facts and
+ * tweedstork_judge_facts_certificate, which must hand each field to the argument of its name, with tweedstork_certificates_matter,
+ * which asks by the first. To see that, this program is linked without the archive and has both calls that judge a host of its
+ * own, which note their arguments and answer what a test wants.
  */
 #include <stdio.h>
 #include <string.h>
@@ -66,6 +67,31 @@ struct tweedstork_host_answer tweedstork_judge_host(
     return answered;
 }
 
+/* Notes the arguments by the plain call's, in the place of whose names nothing comes. */
+static int noted_certificate;
+
+struct tweedstork_host_answer tweedstork_judge_host_certificate(
+    uint64_t clock, const uint8_t *next_hop, size_t next_hop_length, uint64_t expanded_next_hop_given,
+    const uint8_t *expanded_next_hop, size_t expanded_next_hop_length, uint64_t origin, const uint8_t *host, size_t host_length,
+    uint64_t address, const uint8_t *expanded, size_t expanded_length, uint64_t policy_given, const uint8_t *policy,
+    size_t policy_length, uint64_t fetched, uint64_t tlsa_answers, uint64_t tlsa1_result, const uint8_t *tlsa1_lengths,
+    size_t tlsa1_lengths_length, const uint8_t *tlsa1_records, size_t tlsa1_records_length, uint64_t tlsa2_result,
+    const uint8_t *tlsa2_lengths, size_t tlsa2_lengths_length, const uint8_t *tlsa2_records, size_t tlsa2_records_length,
+    uint64_t starttls, uint64_t handshake, uint64_t tls_version, uint64_t certificates_given, const uint8_t *certificates,
+    size_t certificates_length, const uint8_t *certificate_lengths, size_t certificate_lengths_length, const uint8_t *key_places,
+    size_t key_places_length, const uint8_t *digests, size_t digests_length, const uint8_t *paths, size_t paths_length,
+    uint64_t trusted_root)
+{
+    noted_certificate++;
+    return tweedstork_judge_host(
+        clock, next_hop, next_hop_length, expanded_next_hop_given, expanded_next_hop, expanded_next_hop_length, origin, host,
+        host_length, address, expanded, expanded_length, policy_given, policy, policy_length, fetched, tlsa_answers, tlsa1_result,
+        tlsa1_lengths, tlsa1_lengths_length, tlsa1_records, tlsa1_records_length, tlsa2_result, tlsa2_lengths, tlsa2_lengths_length,
+        tlsa2_records, tlsa2_records_length, starttls, handshake, tls_version, certificates_given, certificates, certificates_length,
+        certificate_lengths, certificate_lengths_length, key_places, key_places_length, digests, digests_length, paths, paths_length,
+        trusted_root, NULL, 0, NULL, 0, 0, NULL, 0);
+}
+
 /* Every field is a number of eight bytes or a pointer: each gets a value of its own. */
 static struct tweedstork_host_facts facts_of_their_own(void)
 {
@@ -93,6 +119,44 @@ static void each_field_arrives(void)
     memset(&facts, 0, sizeof facts);
     tweedstork_judge_facts(&facts);
     expect("nothing given is all zero", memcmp(&noted, &facts, sizeof facts) == 0);
+    expect("the plain call alone is asked", noted_certificate == 0);
+}
+
+/* The same for the call that reads the leaf itself: the names are the last of the fields, and are not handed on. */
+static void each_field_but_names_arrives(void)
+{
+    struct tweedstork_host_facts facts = facts_of_their_own(), wanted = facts;
+    struct tweedstork_host_answer answer;
+    size_t names = offsetof(struct tweedstork_host_facts, dns_ids);
+
+    expect("the names are the last seven words", names + 8 * 7 == sizeof facts);
+    memset((uint8_t *)&wanted + names, 0, sizeof wanted - names);
+    memset(&noted, 0xee, sizeof noted);
+    answered.number = 54321;
+    answered.tlsa_questions = 9876;
+    answer = tweedstork_judge_facts_certificate(&facts);
+    expect("each field but the names arrives at its argument", memcmp(&noted, &wanted, sizeof facts) == 0);
+    expect("the answer comes back from the call that reads the leaf", answer.number == 54321 && answer.tlsa_questions == 9876);
+    expect("that call is asked once", noted_certificate == 1);
+    memset(&facts, 0, sizeof facts);
+    tweedstork_judge_facts_certificate(&facts);
+    expect("nothing given is all zero for it too", memcmp(&noted, &facts, sizeof facts) == 0 && noted_certificate == 2);
+}
+
+/* The part of a certificate that a place names: start and length, eight bytes each, the highest first. */
+static void dns_ids_at_their_places(void)
+{
+    static const uint8_t certificate[70000];
+    static const uint8_t places[] = {
+        0, 0, 0, 0, 0, 0, 0, 5, 0, 0, 0, 0, 0, 0, 0, 0, 0, 0, 0, 0, 0, 1, 2, 3, 0, 0, 0, 0, 0, 0, 0x0a, 0x0b,
+        0, 0, 0, 0, 0, 0, 0x80, 0xff, 0, 0, 0, 0, 0, 0, 0, 0xfe, 0, 0, 0, 0, 0, 0, 0, 0, 0, 0, 0, 4, 3, 2, 1, 0,
+    };
+    static const size_t wanted[][2] = {{5, 0}, {0x10203, 0x0a0b}, {0x80ff, 0xfe}, {0, 0x403020100}};
+
+    for (size_t i = 0; i < sizeof wanted / sizeof wanted[0]; i++) {
+        struct tweedstork_slice name = tweedstork_dns_id(certificate, places, i);
+        expect("a DNS-ID at its place", name.bytes == certificate + wanted[i][0] && name.length == wanted[i][1]);
+    }
 }
 
 /*
@@ -216,7 +280,7 @@ static void numbers_are_written_high_first(void)
  */
 static void each_number_has_words(void)
 {
-    static const uint64_t ranges[][2] = {{1, 15}, {20, 28}, {30, 31}, {40, 44}, {50, 50}, {52, 57}, {60, 67}, {70, 72}, {74, 74}, {80, 83}};
+    static const uint64_t ranges[][2] = {{1, 15}, {20, 28}, {30, 31}, {40, 44}, {50, 50}, {52, 57}, {60, 67}, {70, 72}, {74, 74}, {80, 83}, {90, 91}};
     const char *none = tweedstork_answer_words(0);
     unsigned with_words = 0;
 
@@ -239,13 +303,15 @@ static void each_number_has_words(void)
             if (strcmp(words, tweedstork_answer_words(other)) == 0)
                 expect("no two numbers have the same words", 0);
     }
-    expect("54 numbers have words", with_words == 54);
+    expect("56 numbers have words", with_words == 56);
     expect("the largest number has none", strcmp(tweedstork_answer_words(UINT64_MAX), none) == 0);
 }
 
 int main(void)
 {
     each_field_arrives();
+    each_field_but_names_arrives();
+    dns_ids_at_their_places();
     certificates_matter();
     server_names();
     versions();

@@ -46,7 +46,7 @@ named() {
     awk '
         {
             rest = $0
-            while (match(rest, /(`[^` ]+`(, | and ))*`[^` ]+` (\(|in )`[a-z]+\/(specs|proofs)\/[A-Za-z]+\.antt`/)) {
+            while (match(rest, /(`[^` ]+`(, | and ))*`[^` ]+` (\(|in )`[a-z0-9]+\/(specs|proofs)\/[A-Za-z]+\.antt`/)) {
                 part = substr(rest, RSTART, RLENGTH)
                 rest = substr(rest, RSTART + RLENGTH)
                 count = split(part, word, "`")
@@ -76,7 +76,7 @@ check_names() {
 # Every file of definitions or laws that a document names is there.
 check_files() {
     local file
-    for file in $(grep -oh '`[a-z]*/\(specs\|proofs\)/[A-Za-z]*\.antt`' "${documents[@]}" | tr -d '`' | sort -u); do
+    for file in $(grep -oh '`[a-z0-9]*/\(specs\|proofs\)/[A-Za-z]*\.antt`' "${documents[@]}" | tr -d '`' | sort -u); do
         [ -e "crates/$file" ] || complain "there is no crates/$file"
         checked=$((checked + 1))
     done

@@ -60,6 +60,8 @@ scenario mx-failed '30'
 scenario connection-lost '8 10 8 10 11 2 2'
 scenario aliased-domain '8 14 10 11 12 26 8 14 10 11 12 3 3'
 scenario old-tls '8 14 10 11 28 8 14 10 11 12 3 3 8 10 11 2 2'
+scenario second-name '8 10 11 12 4 4'
+scenario malformed-certificate '8 14 10 11 12 90 8 14 10 11 12 3 3'
 scenario cached-policy '72 6 7 15 8 10 11 12 4 4 15 6 8 10 11 12 4 4'
 scenario policy-renewed '72 6 7 15 8 10 11 12 4 4 15 6 7 15 8 10 11 12 4 4 15 6 8 10 11 12 4 4'
 scenario policy-fetch-failed '72 6 7 15 8 10 11 12 4 4 15 6 8 10 24 31'
@@ -134,6 +136,24 @@ for words in '' established 'established TLS' 'established TLS 1.4' 'established
     handshake "$words" stale-policy
     expect "$files/handshake, line 16: not understood" relay "$files/handshake"
 done
+# Document 02, No. 7: the library reads the names in the leaf. A leaf that it refuses leaves the host out, whatever else there is.
+expect 'relay: sends the message to mail.example.com, over the TLS connection whose certificate passed' relay examples/scenarios/second-name.txt
+expect 'relay: sends the message to backup.example.com, over the TLS connection whose certificate passed' relay examples/scenarios/malformed-certificate.txt
+named() { # named NUMBERS SCENARIO SED-EDIT: of the names in the leaf
+    sed "$3" "examples/scenarios/$2.txt" >"$files/names"
+    answers "$1" "$files/names"
+}
+named '8 10 11 12 27 31' second-name '/dns-id mail.example.com/d'
+named '8 10 11 12 27 31' second-name '/dns-id/d; s/common-name .*/common-name mail.example.com/'
+named '8 10 11 12 65' second-name "s/dns-id mail.example.net/dns-id $(printf '%0256d' 0)/"
+named '8 10 11 12 4 4' second-name "s/dns-id mail.example.net/dns-id $(printf '%0255d' 0)/"
+for count in 63 64; do
+    sed '/^ *dns-id mail.example.net/d' examples/scenarios/second-name.txt >"$files/many-names"
+    for ((i = 0; i < count; i++)); do echo "    dns-id n$i.example" >>"$files/many-names"; done
+    answers "$([ $count -eq 63 ] && echo '8 10 11 12 4 4' || echo '8 10 11 12 91')" "$files/many-names"
+done
+named '8 14 10 11 12 90' malformed-certificate "/^host 20/,\$d"
+expect 'relay: keeps the message and tries again later' relay "$files/names"
 expect 'relay: sends the message to backup.example.com, over TLS, whoever the server is' relay examples/scenarios/connection-lost.txt
 printf 'clock 1\nnext-hop example.com\nmx insecure\nhost 10 mail.example.com\naddress insecure\nconnection lost\n' >"$files/lost"
 expect 'relay: keeps the message and tries again later' relay "$files/lost"
@@ -362,6 +382,70 @@ says 2 "$usage" --rewrite $domain/policy.txt a
 says 2 "$usage" --rewrite $domain/policy.txt --id a1
 says 2 "publish: cannot read $files/missing" --rewrite "$files/missing"
 says 2 "publish: cannot read $files" --rewrite "$files"
+
+# Document 02, No. 7: what a certificate says, or where it is malformed.
+prints() { # prints STATUS TEXT FILE: all that is printed of a certificate; of a long line the front will do
+    local status=0 got
+    got=$("$programs/certificate" "$3" 2>&1) || status=$?
+    if [ "$status" -ne "$1" ] || [ "$(sed 's/: refused: .*/: refused/' <<<"$got")" != "$2" ]; then
+        echo "certificate $3: expected $1 and '$2', got $status and '$got'"
+        failed=1
+    fi
+}
+malformed() { # malformed WHERE FILE
+    prints 1 $'certificate: answer 90: refused\n'"certificate: at byte $1" "$2"
+}
+bytes() { # bytes HEX: as they are
+    # shellcheck disable=SC2059 # the bytes are the format
+    printf "$(sed 's/../\\x&/g' <<<"$1")"
+}
+element() { # element TAG HEX: with its length, of up to two bytes, before it
+    local length=$((${#2} / 2))
+    if [ $length -lt 128 ]; then printf '%s%02x%s' "$1" $length "$2"
+    elif [ $length -lt 256 ]; then printf '%s81%02x%s' "$1" $length "$2"
+    else printf '%s82%04x%s' "$1" $length "$2"; fi
+}
+naming() { # naming HEX: a certificate with these GeneralNames, all other fields as short as they can be, into $files/made.der
+    local extension signed
+    extension=$(element 30 "0603551d11$(element 04 "$(element 30 "$1")")")
+    signed=$(element 30 "02010130003000300030003000$(element a3 "$(element 30 "$extension")")")
+    bytes "$(element 30 "${signed}3000030100")" >"$files/made.der"
+}
+leaf=examples/certificates/leaf.pem
+said='certificate: answer 15: done
+DNS-ID 1, at byte 319: "mail.example.com"
+DNS-ID 2, at byte 337: "mx.example.net"
+common name, at byte 142: "mail.example.com"
+public key info, at byte 158: 91 bytes'
+prints 0 "$said" $leaf
+shown=$(awk '/^    \$ target\/c\/certificate examples\/certificates\/leaf.pem/ { shown = 1; next } shown && !/^    [^$]/ { exit } shown { sub(/^    /, ""); print }' README.md)
+if [ -n "$shown" ] && [ "$shown" != "$said" ]; then
+    echo "README.md shows what certificate does not print: $shown"
+    failed=1
+fi
+malformed '335 of 512: 30 19 06 03 55 1d 11 04 12 30 10 82 0e 6d 78 2e and so on' examples/certificates/split-names.pem
+sed '/^-/d' $leaf | base64 -d >"$files/leaf.der"
+prints 0 "$said" "$files/leaf.der"
+{ echo 'Certificate: of a mail server'; sed 's/$/\r/' $leaf; cat examples/certificates/split-names.pem; } >"$files/several.pem"
+prints 0 "$said" "$files/several.pem"
+sed '2s/./-/' $leaf >"$files/broken.pem"
+prints 2 "certificate: $files/broken.pem has something else than base64 between its lines of PEM" "$files/broken.pem"
+head -c 500 "$files/leaf.der" >"$files/cut.der"
+malformed '0 of 500: 30 82 01 f1 30 82 01 97 a0 03 02 01 02 02 02 12 and so on' "$files/cut.der"
+{ cat "$files/leaf.der"; printf 'more'; } >"$files/more.der"
+malformed '501 of 505: 6d 6f 72 65' "$files/more.der"
+malformed '0 of 0: the end' "$files/none"
+naming "$(element 82 6101225cff)$(element 82 '')$(element 87 c0000201)"
+prints 0 $'certificate: answer 15: done\nDNS-ID 1, at byte 34: "a\\x01\\x22\\x5c\\xff"\nDNS-ID 2, at byte 41: ""\npublic key info, at byte 15: 2 bytes' "$files/made.der"
+naming "$(element 82 "$(printf '61%.0s' {1..300})")"
+prints 0 $'certificate: answer 15: done\nDNS-ID 1, at byte 50: "'"$(printf 'a%.0s' {1..100})"$'" and so on, 300 bytes\npublic key info, at byte 19: 2 bytes' "$files/made.der"
+naming "$(for _ in {1..65}; do element 82 61; done)"
+prints 1 'certificate: answer 91: refused' "$files/made.der"
+naming "$(for _ in {1..64}; do element 82 61; done)"
+expect 'public key info, at byte 17: 2 bytes' certificate "$files/made.der"
+expect 'usage: certificate FILE' certificate
+prints 2 "certificate: cannot read $files/missing (at most 1000000 bytes)" "$files/missing"
+prints 2 "certificate: cannot read $files (at most 1000000 bytes)" "$files"
 
 [ "$failed" -eq 0 ] && echo "examples: as expected"
 exit "$failed"

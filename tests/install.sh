@@ -30,7 +30,7 @@ ours() { # PREFIX LIBDIR
     printf '%s\n' "$1/include/tweedstork.h" "$2/libtweedstork.a" "$2/pkgconfig/tweedstork.pc" "$1/share/man/man3/tweedstork.3"
     functions | sed "s|.*|$1/share/man/man3/&.3|"
     printf "$1/share/doc/tweedstork/%s\n" docs/{RULES,RELAY,CLAIMS,DECISIONS}.md \
-        examples/{discover,openssl,publish,relay,scenario}.c examples/{openssl,scenario}.h
+        examples/{certificate,discover,openssl,publish,relay,scenario}.c examples/{openssl,scenario}.h
 }
 
 # Standard input says which files the folder has to have.

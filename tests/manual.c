@@ -22,7 +22,8 @@ extern struct tweedstork_cache cache; /* the example's own */
 
 static uint64_t tlsa, starttls, handshake, version; /* what the network answers; the version of TLS, or 0: it is forgotten */
 static uint64_t lost_at;                            /* the question at which the connection is lost; 0: at none */
-static int certificate_matches, forgetful;          /* forgetful: the answer about STARTTLS is lost on its way into the facts */
+static int certificate_matches, malformed;          /* the certificate that the server shows */
+static int forgetful;                               /* the answer about STARTTLS is lost on its way into the facts */
 static int learnt;                                  /* how often the example asked */
 static char outcome[64];
 
@@ -64,30 +65,28 @@ int shake_hands(struct tweedstork_host_facts *facts)
     return learns(TWEEDSTORK_ASK_HANDSHAKE);
 }
 
-/* One certificate of two bytes, the second of which is its key info. */
+/* One certificate, as short as it can be: without names, and with key info that is empty. A malformed one has a byte left over. */
 int take_certificates(struct tweedstork_host_facts *facts)
 {
-    static const uint8_t certificate[2];
-    static uint8_t length[4], key_place[8], digests[192], path[4];
+    static const uint8_t certificate[] = {
+        0x30, 20, 0x30, 13, 2, 1, 1, 0x30, 0, 0x30, 0, 0x30, 0, 0x30, 0, 0x30, 0, 0x30, 0, 3, 1, 0, /* and one more: */ 0,
+    };
+    static uint8_t length[4], digests[192], path[4];
+    size_t size = sizeof certificate - (malformed ? 0 : 1);
 
     memset(digests, certificate_matches ? 0 : 1, sizeof digests);
-    tweedstork_put_number(length, 0, sizeof certificate);
-    tweedstork_put_number(key_place, 0, 1);
-    tweedstork_put_number(key_place, 1, 1);
+    tweedstork_put_number(length, 0, (uint32_t)size);
     tweedstork_put_number(path, 0, TWEEDSTORK_YES);
     facts->certificates_given = TWEEDSTORK_CERTIFICATES_GIVEN;
     facts->certificates.bytes = certificate;
-    facts->certificates.length = sizeof certificate;
+    facts->certificates.length = size;
     facts->certificate_lengths.bytes = length;
     facts->certificate_lengths.length = sizeof length;
-    facts->key_places.bytes = key_place;
-    facts->key_places.length = sizeof key_place;
     facts->digests.bytes = digests;
     facts->digests.length = sizeof digests;
     facts->paths.bytes = path;
     facts->paths.length = sizeof path;
     facts->trusted_root = TWEEDSTORK_NO;
-    facts->common_name_given = TWEEDSTORK_NO;
     return learns(TWEEDSTORK_ASK_CERTIFICATES);
 }
 
@@ -174,7 +173,9 @@ int main(void)
     handshake = TWEEDSTORK_ESTABLISHED;
     certificate_matches = 1;
     versions();
-    certificate_matches = 0;
+    malformed = 1;
+    expect("leave out", "example.com");
+    malformed = certificate_matches = 0;
     expect("go on 26", "example.com");
     expect("leave out", "example..com");
     for (lost_at = TWEEDSTORK_ASK_STARTTLS; lost_at <= TWEEDSTORK_ASK_CERTIFICATES; lost_at++)

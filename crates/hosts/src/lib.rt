@@ -69,7 +69,7 @@ pub enum Connection {
 }
 
 // The answer of the call: a refusal; or the verdict on the host, or the question of the next fact to learn.
-pub fn judge_host<'a>(
+fn judge_host<'a>(
     n: Numbers,
     next_hop: &'a [u8],
     expanded_next_hop: &'a [u8],
@@ -128,6 +128,82 @@ pub fn judge_host<'a>(
         expanded_next_hop,
         host,
         expanded,
+        tlsa1_lengths,
+        tlsa1_records,
+        tlsa2_lengths,
+        tlsa2_records,
+        certificates,
+        certificate_lengths,
+        key_places,
+        digests,
+        paths,
+        dns_ids,
+        dns_id_lengths,
+        common_name,
+    )
+}
+
+// The same, with the arguments one by one in the order in which C passes them, so that the exported call hands them on where they lie.
+pub fn judge_call<'a>(
+    clock: u64,
+    next_hop: &'a [u8],
+    expanded_next_hop_given: u64,
+    expanded_next_hop: &'a [u8],
+    origin: u64,
+    host: &'a [u8],
+    address: u64,
+    expanded: &'a [u8],
+    policy_given: u64,
+    policy: &'a [u8],
+    fetched: u64,
+    tlsa_answers: u64,
+    tlsa1_result: u64,
+    tlsa1_lengths: &'a [u8],
+    tlsa1_records: &'a [u8],
+    tlsa2_result: u64,
+    tlsa2_lengths: &'a [u8],
+    tlsa2_records: &'a [u8],
+    starttls: u64,
+    handshake: u64,
+    tls_version: u64,
+    certificates_given: u64,
+    certificates: &'a [u8],
+    certificate_lengths: &'a [u8],
+    key_places: &'a [u8],
+    digests: &'a [u8],
+    paths: &'a [u8],
+    trusted_root: u64,
+    dns_ids: &'a [u8],
+    dns_id_lengths: &'a [u8],
+    common_name_given: u64,
+    common_name: &'a [u8],
+) -> HostAnswer
+    ensures { λ r. ⌜ r ≡ hostAnswer (argumentsOf (record { clock = clock; «expanded_next_hop_given» = «expanded_next_hop_given»; origin = origin; address = address; «policy_given» = «policy_given»; fetched = fetched; «tlsa_answers» = «tlsa_answers»; «tlsa1_result» = «tlsa1_result»; «tlsa2_result» = «tlsa2_result»; starttls = starttls; handshake = handshake; «tls_version» = «tls_version»; «certificates_given» = «certificates_given»; «trusted_root» = «trusted_root»; «common_name_given» = «common_name_given» }) (now («next_hop» .entry)) (now («expanded_next_hop» .entry)) (now (host .entry)) (now (expanded .entry)) (now (policy .entry)) (now («tlsa1_lengths» .entry)) (now («tlsa1_records» .entry)) (now («tlsa2_lengths» .entry)) (now («tlsa2_records» .entry)) (now (certificates .entry)) (now («certificate_lengths» .entry)) (now («key_places» .entry)) (now (digests .entry)) (now (paths .entry)) (now («dns_ids» .entry)) (now («dns_id_lengths» .entry)) (now («common_name» .entry))) ⌝ }
+{
+    let n = Numbers {
+        clock,
+        expanded_next_hop_given,
+        origin,
+        address,
+        policy_given,
+        fetched,
+        tlsa_answers,
+        tlsa1_result,
+        tlsa2_result,
+        starttls,
+        handshake,
+        tls_version,
+        certificates_given,
+        trusted_root,
+        common_name_given,
+    };
+    judge_host(
+        n,
+        next_hop,
+        expanded_next_hop,
+        host,
+        expanded,
+        policy,
         tlsa1_lengths,
         tlsa1_records,
         tlsa2_lengths,

@@ -34,3 +34,16 @@ atMost bound n = leb n bound
 unfoldable pub written : List ℕ → List ℕ
 written [] = []
 written (n ∷ ns) = n / 16777216 ∷ n / 65536 % 256 ∷ n / 256 % 256 ∷ n % 256 ∷ written ns
+
+-- document 02, No. 7: a number below 2 ^ 64 as eight bytes, high first
+unfoldable pub eight : ℕ → List ℕ
+eight n =
+    n / 72057594037927936 % 256
+    ∷ n / 281474976710656 % 256
+    ∷ n / 1099511627776 % 256
+    ∷ n / 4294967296 % 256
+    ∷ n / 16777216 % 256
+    ∷ n / 65536 % 256
+    ∷ n / 256 % 256
+    ∷ n % 256
+    ∷ []

@@ -1,12 +1,15 @@
 // The C boundary: each call takes numbers, and slices of bytes or entries, of any contents, and answers for all of them. `include/tweedstork.h` declares them.
 ghost use mathlib.Core.Bool.{true};
 ghost use mathlib.Core.Path.{_≡_};
+ghost use mathlib.Core.List.{[]};
 ghost use lib.ListN.{length};
 ghost use Rattle.lists.specs.Bytes.{isBytes};
 ghost use Rattle.cache.specs.Store.{storeAnswer, tableAfter, textsAfter};
 ghost use Rattle.cache.specs.Lookup.{lookupAnswer};
 ghost use Rattle.hosts.specs.Arguments.{argumentsOf};
 ghost use Rattle.hosts.specs.Demands.{Judged};
+ghost use Rattle.judging.specs.Judging.{certificateAnswer};
+ghost use Rattle.leaf.specs.Read.{readCertificate, wrotePlaces};
 ghost use Rattle.policies.specs.Policy.{policyAnswer};
 ghost use Rattle.publish.specs.Calls.{writeTxtAnswer, writeTxtOutput, writePolicyAnswer, writePolicyOutput, rewriteAnswer, rewriteOutput};
 ghost use Rattle.txt.specs.Txt.{readTxt, wroteTxt};
@@ -15,6 +18,7 @@ use cache::CacheAnswer;
 use cache::CacheEntry;
 use hosts::HostAnswer;
 use hosts::Numbers;
+use leaf::CertificateAnswer;
 use messages::MessageAnswer;
 use messages::MxLookup;
 use policies::PolicyAnswer;
@@ -26,7 +30,7 @@ use writing::WriteAnswer;
 pub extern "C" fn tweedstork_version() -> u64
     ensures { λ r. ⌜ r ≡ version ⌝ }
 {
-    10600
+    10700
 }
 
 // Which MTA-STS record do these TXT RDATAs hold, and what is its id?
@@ -111,6 +115,88 @@ pub extern "C" fn tweedstork_judge_host<'a>(
     let _dns_ids = is_bytes(dns_ids);
     let _dns_id_lengths = is_bytes(dns_id_lengths);
     let _common_name = is_bytes(common_name);
+    hosts::judge_call(
+        clock,
+        next_hop,
+        expanded_next_hop_given,
+        expanded_next_hop,
+        origin,
+        host,
+        address,
+        expanded,
+        policy_given,
+        policy,
+        fetched,
+        tlsa_answers,
+        tlsa1_result,
+        tlsa1_lengths,
+        tlsa1_records,
+        tlsa2_result,
+        tlsa2_lengths,
+        tlsa2_records,
+        starttls,
+        handshake,
+        tls_version,
+        certificates_given,
+        certificates,
+        certificate_lengths,
+        key_places,
+        digests,
+        paths,
+        trusted_root,
+        dns_ids,
+        dns_id_lengths,
+        common_name_given,
+        common_name,
+    )
+}
+
+// Which DNS-IDs and which common name does this certificate have, and where does its public key info stand?
+#[no_mangle]
+pub extern "C" fn tweedstork_read_certificate(
+    certificate: &[u8],
+    places: &mut [u8],
+) -> CertificateAnswer
+    ensures { λ r. ⌜ r ≡ readCertificate (now (certificate .entry)) (length (now (places .entry))) ⌝ }
+    ensures { λ _. ⌜ now (places .exit) ≡ wrotePlaces (now (certificate .entry)) (now (places .entry)) ⌝ }
+{
+    leaf::read_certificate(certificate, places)
+}
+
+// May the relay deliver to this host, and how? Or what must it learn next? The leaf's DNS-IDs, common name and key place are read of the leaf itself.
+#[no_mangle]
+pub extern "C" fn tweedstork_judge_host_certificate<'a>(
+    clock: u64,
+    next_hop: &'a [u8],
+    expanded_next_hop_given: u64,
+    expanded_next_hop: &'a [u8],
+    origin: u64,
+    host: &'a [u8],
+    address: u64,
+    expanded: &'a [u8],
+    policy_given: u64,
+    policy: &'a [u8],
+    fetched: u64,
+    tlsa_answers: u64,
+    tlsa1_result: u64,
+    tlsa1_lengths: &'a [u8],
+    tlsa1_records: &'a [u8],
+    tlsa2_result: u64,
+    tlsa2_lengths: &'a [u8],
+    tlsa2_records: &'a [u8],
+    starttls: u64,
+    handshake: u64,
+    tls_version: u64,
+    certificates_given: u64,
+    certificates: &'a [u8],
+    certificate_lengths: &'a [u8],
+    key_places: &'a [u8],
+    digests: &'a [u8],
+    paths: &'a [u8],
+    trusted_root: u64,
+) -> HostAnswer
+    ensures { λ r. ⌜ r ≡ certificateAnswer (argumentsOf (record { clock = clock; «expanded_next_hop_given» = «expanded_next_hop_given»; origin = origin; address = address; «policy_given» = «policy_given»; fetched = fetched; «tlsa_answers» = «tlsa_answers»; «tlsa1_result» = «tlsa1_result»; «tlsa2_result» = «tlsa2_result»; starttls = starttls; handshake = handshake; «tls_version» = «tls_version»; «certificates_given» = «certificates_given»; «trusted_root» = «trusted_root»; «common_name_given» = 2 }) (now («next_hop» .entry)) (now («expanded_next_hop» .entry)) (now (host .entry)) (now (expanded .entry)) (now (policy .entry)) (now («tlsa1_lengths» .entry)) (now («tlsa1_records» .entry)) (now («tlsa2_lengths» .entry)) (now («tlsa2_records» .entry)) (now (certificates .entry)) (now («certificate_lengths» .entry)) (now («key_places» .entry)) (now (digests .entry)) (now (paths .entry)) [] [] []) ⌝ }
+{
     let n = Numbers {
         clock,
         expanded_next_hop_given,
@@ -126,9 +212,9 @@ pub extern "C" fn tweedstork_judge_host<'a>(
         tls_version,
         certificates_given,
         trusted_root,
-        common_name_given,
+        common_name_given: 2,
     };
-    hosts::judge_host(
+    judging::judge_host_certificate(
         n,
         next_hop,
         expanded_next_hop,
@@ -144,9 +230,6 @@ pub extern "C" fn tweedstork_judge_host<'a>(
         key_places,
         digests,
         paths,
-        dns_ids,
-        dns_id_lengths,
-        common_name,
     )
 }
 

@@ -11,6 +11,8 @@ use crate::line::has_kinds_at;
 use crate::line::name;
 use crate::line::number_at;
 use crate::line::part;
+use hosts::HostAnswer;
+use leaf::CertificateAnswer;
 use libc::STDOUT_FILENO;
 use writing::WriteAnswer;
 
@@ -29,19 +31,21 @@ pub enum Writer {
     WriteTxt,
     WritePolicy,
     RewritePolicy,
+    ReadCertificate,
 }
 
 // The numbers of an answer, in the order of its struct, and zeros after them.
 pub struct Answer {
     pub count: usize,
-    pub numbers: [u64; 6],
+    pub numbers: [u64; 9],
 }
 
 // Runs the case of a line: field 0 names the call, field 1 the case, then come the call's arguments, `=>` and its answer. `d` are
 // the fields of the default that holds for the line.
 pub(crate) fn run(s: &[u8], f: Fields, d: Fields) -> Outcome {
     let found = facts::item_of(
-        b"read_txt;read_policy;judge_host;next_host;write_txt;write_policy;rewrite_policy",
+        b"read_txt;read_policy;judge_host;next_host;write_txt;write_policy;rewrite_policy;read_certificate;\
+            judge_host_certificate",
         b';',
         bytes_at(s, f, 0),
     );
@@ -56,7 +60,9 @@ pub(crate) fn run(s: &[u8], f: Fields, d: Fields) -> Outcome {
         3 => next_host(s, f),
         4 => with_output(s, f, Writer::WriteTxt, b"wwbb=nnb", 3),
         5 => with_output(s, f, Writer::WritePolicy, b"wwnnbbb=nnb", 6),
-        _ => with_output(s, f, Writer::RewritePolicy, b"wwbb=nnb", 3),
+        6 => with_output(s, f, Writer::RewritePolicy, b"wwbb=nnb", 3),
+        7 => with_output(s, f, Writer::ReadCertificate, b"wwbb=nnnnnnnnnb", 3),
+        _ => judge_host_certificate(s, f, d),
     }
 }
 
@@ -110,11 +116,29 @@ fn answered(s: &[u8], f: Fields, call: Writer, output: &mut [u8]) -> Answer {
             output,
         )),
         Writer::RewritePolicy => written(tweedstork::tweedstork_rewrite_policy(a, output)),
+        Writer::ReadCertificate => read(tweedstork::tweedstork_read_certificate(a, output)),
     }
 }
 
 fn written(r: WriteAnswer) -> Answer {
     answer_of(2, r.number, r.length, 0, 0)
+}
+
+fn read(r: CertificateAnswer) -> Answer {
+    Answer {
+        count: 9,
+        numbers: [
+            r.number,
+            r.length,
+            r.offset,
+            r.key_start,
+            r.key_length,
+            r.dns_id_count,
+            r.common_name_given,
+            r.common_name_start,
+            r.common_name_length,
+        ],
+    }
 }
 
 fn read_policy(s: &[u8], f: Fields) -> Outcome {
@@ -124,22 +148,23 @@ fn read_policy(s: &[u8], f: Fields) -> Outcome {
     let r = tweedstork::tweedstork_read_policy(bytes_at(s, f, 2));
     let got = Answer {
         count: 6,
-        numbers: [r.number, r.mode, r.lifetime, r.mx_count, r.line, r.offset],
+        numbers: [
+            r.number,
+            r.mode,
+            r.lifetime,
+            r.mx_count,
+            r.line,
+            r.offset,
+            0,
+            0,
+            0,
+        ],
     };
     compared(name(s, f), expected_at(f, 4, 6), got)
 }
 
-// The last three fields are `=>` and the answer; those before are facts. A case whose default can't be read can't be read either.
 fn judge_host(s: &[u8], f: Fields, d: Fields) -> Outcome {
-    let n = f.count;
-    if n < 3 {
-        return Outcome::Unreadable;
-    }
-    if !has_kinds_at(f, n - 3, n, b"=nn") {
-        return Outcome::Unreadable;
-    }
-    let expected = expected_at(f, n - 2, 2);
-    let v = facts::with_facts(s, facts::of_default(s, d), f, n - 3, facts::BY_CASE);
+    let v = facts::of_case(s, f, d);
     if v.is_broken {
         return Outcome::Unreadable;
     }
@@ -178,9 +203,57 @@ fn judge_host(s: &[u8], f: Fields, d: Fields) -> Outcome {
         number_at(v, 30),
         bytes_at(s, v, 31),
     );
+    compared_host(s, f, r)
+}
+
+// A case that gives a name of the leaf, which this call reads itself, can't be read.
+fn judge_host_certificate(s: &[u8], f: Fields, d: Fields) -> Outcome {
+    let v = facts::of_case(s, f, d);
+    if !has_kinds_at(v, facts::FIRST_NAME, facts::COUNT, b"wwww") {
+        return Outcome::Unreadable;
+    }
+    let r = tweedstork::tweedstork_judge_host_certificate(
+        number_at(v, 0),
+        bytes_at(s, v, 1),
+        number_at(v, 2),
+        bytes_at(s, v, 3),
+        number_at(v, 4),
+        bytes_at(s, v, 5),
+        number_at(v, 6),
+        bytes_at(s, v, 7),
+        number_at(v, 8),
+        bytes_at(s, v, 9),
+        number_at(v, 10),
+        number_at(v, 11),
+        number_at(v, 12),
+        bytes_at(s, v, 13),
+        bytes_at(s, v, 14),
+        number_at(v, 15),
+        bytes_at(s, v, 16),
+        bytes_at(s, v, 17),
+        number_at(v, 18),
+        number_at(v, 19),
+        number_at(v, 20),
+        number_at(v, 21),
+        bytes_at(s, v, 22),
+        bytes_at(s, v, 23),
+        bytes_at(s, v, 24),
+        bytes_at(s, v, 25),
+        bytes_at(s, v, 26),
+        number_at(v, 27),
+    );
+    compared_host(s, f, r)
+}
+
+// Compares the answer on a host with the last two fields of its line.
+fn compared_host(s: &[u8], f: Fields, r: HostAnswer) -> Outcome {
+    let n = f.count;
+    if n < 2 {
+        return Outcome::Unreadable;
+    }
     compared(
         name(s, f),
-        expected,
+        expected_at(f, n - 2, 2),
         answer_of(2, r.number, r.tlsa_questions, 0, 0),
     )
 }
@@ -211,6 +284,9 @@ pub(crate) fn expected_at(f: Fields, k: usize, count: usize) -> Answer {
             number_at(f, k + 3),
             number_at(f, k + 4),
             number_at(f, k + 5),
+            number_at(f, k + 6),
+            number_at(f, k + 7),
+            number_at(f, k + 8),
         ],
     }
 }
@@ -219,7 +295,7 @@ pub(crate) fn expected_at(f: Fields, k: usize, count: usize) -> Answer {
 pub(crate) fn answer_of(count: usize, a: u64, b: u64, c: u64, d: u64) -> Answer {
     Answer {
         count: count,
-        numbers: [a, b, c, d, 0, 0],
+        numbers: [a, b, c, d, 0, 0, 0, 0, 0],
     }
 }
 
@@ -246,8 +322,16 @@ pub(crate) fn compared(case: &[u8], expected: Answer, got: Answer) -> Outcome {
     Outcome::Differs
 }
 
-fn same_numbers(a: [u64; 6], b: [u64; 6]) -> bool {
-    a[0] == b[0] && a[1] == b[1] && a[2] == b[2] && a[3] == b[3] && a[4] == b[4] && a[5] == b[5]
+fn same_numbers(a: [u64; 9], b: [u64; 9]) -> bool {
+    a[0] == b[0]
+        && a[1] == b[1]
+        && a[2] == b[2]
+        && a[3] == b[3]
+        && a[4] == b[4]
+        && a[5] == b[5]
+        && a[6] == b[6]
+        && a[7] == b[7]
+        && a[8] == b[8]
 }
 
 fn say_answer(a: Answer) {
@@ -258,6 +342,9 @@ fn say_answer(a: Answer) {
     say_more(3 < a.count, n[3]);
     say_more(4 < a.count, n[4]);
     say_more(5 < a.count, n[5]);
+    say_more(6 < a.count, n[6]);
+    say_more(7 < a.count, n[7]);
+    say_more(8 < a.count, n[8]);
 }
 
 fn say_more(is_there: bool, n: u64) {

@@ -1,8 +1,9 @@
-// The facts of a host, which a line gives by name, as `origin=no_mx host="mx.example.com"`: the arguments of tweedstork_judge_host.
-// A new one is an item of the list in `with_fact`, in the place of its argument, and an argument in `calls::judge_host`.
+// The facts of a host, which a line gives by name, as `origin=no_mx host="mx.example.com"`: the arguments of tweedstork_judge_host,
+// and without the last four, the leaf's names, those of tweedstork_judge_host_certificate. A new one is an item of the list in
+// `with_fact`, in the place of its argument, and an argument in `calls::judge_host` and `calls::judge_host_certificate`.
 //
-// A default is a line as `default judge_host clock=1000 ..`. It states the facts that the cases after it don't give, up to the
-// file's end or the next default. What neither gives is 0 or no bytes.
+// A default is a line as `default judge_host clock=1000 ..`. It states the facts that the cases of both calls after it don't give, up
+// to the file's end or the next default. What neither gives is 0 or no bytes.
 //
 // The values of the facts are held as fields, in the order of the arguments; the kind of each says which line gave it.
 use crate::line::Field;
@@ -18,7 +19,12 @@ use crate::line::part;
 
 const BY_DEFAULT: u8 = b'd';
 
-pub(crate) const BY_CASE: u8 = b'c';
+const BY_CASE: u8 = b'c';
+
+// How many facts there are, and the place of the first of the last four: the names of the leaf.
+pub(crate) const COUNT: usize = 32;
+
+pub(crate) const FIRST_NAME: usize = 28;
 
 // An item of a list: its place among the items, from 0 on, and where what follows its first word stands in the list.
 pub struct Item {
@@ -44,8 +50,21 @@ pub(crate) fn of_default(s: &[u8], f: Fields) -> Fields {
     with_facts(s, v, f, f.count, BY_DEFAULT)
 }
 
+// The values of a case: its last three fields are `=>` and the answer, those before are facts. Those of a case whose default can't
+// be read can't be read either.
+pub(crate) fn of_case(s: &[u8], f: Fields, d: Fields) -> Fields {
+    let n = f.count;
+    if n < 3 {
+        return broken(none(0));
+    }
+    if !has_kinds_at(f, n - 3, n, b"=nn") {
+        return broken(none(0));
+    }
+    with_facts(s, of_default(s, d), f, n - 3, BY_CASE)
+}
+
 // The values with those that a line gives: two words, then up to field `end` a name and a value in turn.
-pub(crate) fn with_facts(s: &[u8], values: Fields, f: Fields, end: usize, by: u8) -> Fields {
+fn with_facts(s: &[u8], values: Fields, f: Fields, end: usize, by: u8) -> Fields {
     let mut v = values;
     if !has_kinds_at(f, 0, 2, b"ww") {
         return broken(v);

@@ -1,8 +1,9 @@
 // A line of a case file, taken apart into its fields, which stand between spaces.
 //
 // A field is a word, as `next_host` or `20`, the sign `=>`, or bytes. Bytes are items with nothing between them: texts, as
-// `"a\n"`, and lists of four-byte numbers, as `[20 10]`. `*` and a number after an item says how often it stands there, as
-// `"a"*253`. The escapes of a text are `\n`, `\r`, `\t`, `\\`, `\"` and `\xHH`. A lone `-` is no bytes.
+// `"a\n"`, lists of four-byte numbers, as `[20 10]`, and bytes in hexadecimal, as `{3003 0201 ff}`. `*` and a number after an
+// item says how often it stands there, as `"a"*253`. The escapes of a text are `\n`, `\r`, `\t`, `\\`, `\"` and `\xHH`. A lone `-`
+// is no bytes.
 // A name and `=`, as in `clock=1000`, are a field too; the field after it, its value, follows without a space.
 
 pub(crate) const MOST_FIELDS: usize = 96;
@@ -57,6 +58,9 @@ pub enum Mode {
     Escape,
     HighDigit,
     LowDigit(u8),
+    // bytes in hexadecimal, and the second digit of one: the first is worth so much
+    Hex,
+    HexDigit(u8),
     List,
     ListNumber(Decimal),
     // what follows an item
@@ -344,7 +348,9 @@ fn next(mode: Mode, b: u8) -> Action {
         Mode::Text => in_text(b),
         Mode::Escape => in_escape(b),
         Mode::HighDigit => Action::Nothing(Mode::LowDigit(hex_digit(b))),
-        Mode::LowDigit(high) => at_low_digit(high, b),
+        Mode::LowDigit(high) => at_low_digit(high, b, Mode::Text),
+        Mode::Hex => in_hex(b),
+        Mode::HexDigit(high) => at_low_digit(high, b, Mode::Hex),
         Mode::List => in_list(b),
         Mode::ListNumber(so_far) => in_list_number(so_far, b),
         Mode::Item => after_item(b),
@@ -359,6 +365,7 @@ fn at_field(b: u8) -> Action {
         b' ' => Action::Nothing(Mode::Between),
         b'"' => Action::Begin(Mode::Text),
         b'[' => Action::Begin(Mode::List),
+        b'{' => Action::Begin(Mode::Hex),
         b'-' => Action::Nothing(Mode::Space(BYTES)),
         b'=' => Action::Nothing(Mode::Sign),
         _ => Action::Put(b, Mode::Word(with_digit(Decimal::Is(0), b))),
@@ -407,7 +414,8 @@ fn in_escape(b: u8) -> Action {
     }
 }
 
-fn at_low_digit(high: u8, b: u8) -> Action {
+// A byte's second digit, after which the line goes on in a mode.
+fn at_low_digit(high: u8, b: u8, after: Mode) -> Action {
     let low = hex_digit(b);
     if high > 15 {
         return Action::Stop;
@@ -415,7 +423,7 @@ fn at_low_digit(high: u8, b: u8) -> Action {
     if low > 15 {
         return Action::Stop;
     }
-    Action::Put(high * 16 + low, Mode::Text)
+    Action::Put(high * 16 + low, after)
 }
 
 // The value of a hexadecimal digit, or 16 for another byte.
@@ -425,6 +433,15 @@ fn hex_digit(b: u8) -> u8 {
         b'a'..=b'f' => b - b'a' + 10,
         b'A'..=b'F' => b - b'A' + 10,
         _ => 16,
+    }
+}
+
+// Spaces may stand between bytes in hexadecimal.
+fn in_hex(b: u8) -> Action {
+    match b {
+        b' ' => Action::Nothing(Mode::Hex),
+        b'}' => Action::Nothing(Mode::Item),
+        _ => Action::Nothing(Mode::HexDigit(hex_digit(b))),
     }
 }
 
@@ -452,6 +469,7 @@ fn after_item(b: u8) -> Action {
         b' ' => Action::Nothing(Mode::Ended(BYTES, 0)),
         b'"' => Action::Begin(Mode::Text),
         b'[' => Action::Begin(Mode::List),
+        b'{' => Action::Begin(Mode::Hex),
         b'*' => Action::Nothing(Mode::Star),
         _ => Action::Stop,
     }
@@ -465,6 +483,7 @@ fn in_times(so_far: Decimal, b: u8) -> Action {
         b' ' => Action::Repeat(n, Mode::Ended(BYTES, 0)),
         b'"' => Action::Repeat(n, Mode::Text),
         b'[' => Action::Repeat(n, Mode::List),
+        b'{' => Action::Repeat(n, Mode::Hex),
         _ => Action::Nothing(Mode::Times(with_digit(so_far, b))),
     }
 }

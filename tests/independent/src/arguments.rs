@@ -61,6 +61,16 @@ pub fn host(c: &HostCall) -> String {
     .concat()
 }
 
+/// Without the names.
+pub fn host_certificate(c: &HostCall) -> String {
+    let all = host(c);
+    all.split_inclusive('\n').take_while(|line| !line.starts_with("  dns_ids")).collect()
+}
+
+pub fn certificate(certificate: &[u8], places: &[u8]) -> String {
+    format!("  certificate {}\n  places {}", hex(certificate), hex(places))
+}
+
 pub fn message(lookup: u64, preferences: &[u8], verdicts: &[u8]) -> String {
     format!("  mx_lookup {lookup}\n  preferences {}\n  verdicts {}", hex(preferences), hex(verdicts))
 }

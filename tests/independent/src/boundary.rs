@@ -7,6 +7,7 @@
 
 use crate::random::Random;
 use independent_rules::cache::{Entry, LookupAnswer, StoreAnswer};
+use independent_rules::certificate::CertificateAnswer;
 use independent_rules::exports::{Host, Message, Txt, Write};
 use independent_rules::publish::WriteAnswer;
 use independent_rules::rules::{HostAnswer, HostCall, MessageAnswer, PolicyAnswer, TxtAnswer};
@@ -82,6 +83,38 @@ extern "C" {
     fn tweedstork_rewrite_policy(
         body: *const u8, body_length: usize,
         output: *mut u8, output_length: usize) -> Write;
+    fn tweedstork_read_certificate(
+        certificate: *const u8, certificate_length: usize,
+        places: *mut u8, places_length: usize) -> CertificateAnswer;
+    fn tweedstork_judge_host_certificate(
+        clock: u64,
+        next_hop: *const u8, next_hop_length: usize,
+        expanded_next_hop_given: u64,
+        expanded_next_hop: *const u8, expanded_next_hop_length: usize,
+        origin: u64,
+        host: *const u8, host_length: usize,
+        address: u64,
+        expanded: *const u8, expanded_length: usize,
+        policy_given: u64,
+        policy: *const u8, policy_length: usize,
+        fetched: u64,
+        tlsa_answers: u64,
+        tlsa1_result: u64,
+        tlsa1_lengths: *const u8, tlsa1_lengths_length: usize,
+        tlsa1_records: *const u8, tlsa1_records_length: usize,
+        tlsa2_result: u64,
+        tlsa2_lengths: *const u8, tlsa2_lengths_length: usize,
+        tlsa2_records: *const u8, tlsa2_records_length: usize,
+        starttls: u64,
+        handshake: u64,
+        tls_version: u64,
+        certificates_given: u64,
+        certificates: *const u8, certificates_length: usize,
+        certificate_lengths: *const u8, certificate_lengths_length: usize,
+        key_places: *const u8, key_places_length: usize,
+        digests: *const u8, digests_length: usize,
+        paths: *const u8, paths_length: usize,
+        trusted_root: u64) -> Host;
 }
 
 extern "C" {
@@ -113,6 +146,7 @@ const PAGE: usize = 4096;
 const ROOM: usize = 44 * PAGE;
 const BOUNDARY: usize = 16;
 const HOST_SLICES: usize = 17;
+const LEAF_HOST_SLICES: usize = 14; // without the names
 const TABLE: usize = HOST_SLICES; // the slot of a cache's table
 const SLOTS: usize = HOST_SLICES + 1;
 
@@ -352,6 +386,51 @@ impl Lender {
         (a.number, a.length)
     }
 
+    /// The places are copied back.
+    pub fn read_certificate(&mut self, certificate: &[u8], places: &mut [u8], place: Place) -> CertificateAnswer {
+        let (c, p) = (self.lend(0, certificate, place), self.lend(1, places, place));
+        // SAFETY: valid slices that don't overlap.
+        let a = unsafe { tweedstork_read_certificate(c, certificate.len(), p, places.len()) };
+        self.take_back(1, places, place);
+        self.check(0, certificate, place);
+        a
+    }
+
+    /// For a certificate that is longer than the lender has room: it is lent as it is.
+    pub fn read_long_certificate(&mut self, certificate: &[u8], places: &mut [u8]) -> CertificateAnswer {
+        // SAFETY: valid slices that don't overlap.
+        unsafe { tweedstork_read_certificate(certificate.as_ptr(), certificate.len(), places.as_mut_ptr(), places.len()) }
+    }
+
+    /// The names of the call are not lent, and its key places have no pair for the leaf.
+    pub fn judge_host_certificate(&mut self, c: &HostCall, place: Place) -> HostAnswer {
+        let slices: [&[u8]; LEAF_HOST_SLICES] = [
+            &c.next_hop, &c.expanded_next_hop, &c.host, &c.expanded, &c.policy, &c.tlsa[0].lengths, &c.tlsa[0].records,
+            &c.tlsa[1].lengths, &c.tlsa[1].records, &c.certificates, &c.certificate_lengths, &c.key_places, &c.digests, &c.paths,
+        ];
+        let mut p = [std::ptr::null_mut(); LEAF_HOST_SLICES];
+        for (i, s) in slices.iter().enumerate() {
+            p[i] = self.lend(i, s, place);
+        }
+        // SAFETY: valid slices.
+        #[rustfmt::skip]
+        let a = unsafe {
+            tweedstork_judge_host_certificate(
+                c.clock, p[0], c.next_hop.len(), c.expanded_next_hop_given, p[1], c.expanded_next_hop.len(), c.origin,
+                p[2], c.host.len(), c.address, p[3], c.expanded.len(),
+                c.policy_given, p[4], c.policy.len(), c.fetched, c.tlsa_answers,
+                c.tlsa[0].result, p[5], c.tlsa[0].lengths.len(), p[6], c.tlsa[0].records.len(),
+                c.tlsa[1].result, p[7], c.tlsa[1].lengths.len(), p[8], c.tlsa[1].records.len(),
+                c.starttls, c.handshake, c.tls_version, c.certificates_given,
+                p[9], c.certificates.len(), p[10], c.certificate_lengths.len(), p[11], c.key_places.len(),
+                p[12], c.digests.len(), p[13], c.paths.len(), c.trusted_root)
+        };
+        for (i, s) in slices.iter().enumerate() {
+            self.check(i, s, place);
+        }
+        (a.number, a.tlsa_questions)
+    }
+
     /// The output becomes what stands in its copy. Panics if a byte beside that has changed.
     fn take_back(&mut self, slot: usize, output: &mut [u8], place: Place) {
         output.copy_from_slice(self.parts(slot, output.len(), place)[1]);
@@ -390,3 +469,4 @@ fn bytes_of_mut(table: &mut [Entry]) -> &mut [u8] {
 
 const _: () = assert!(std::mem::size_of::<Entry>() == 253 + 32 + 3 + 8 + 8);
 const _: () = assert!(std::mem::size_of::<PolicyAnswer>() == 6 * 8);
+const _: () = assert!(std::mem::size_of::<CertificateAnswer>() == 9 * 8);

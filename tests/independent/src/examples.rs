@@ -4,22 +4,23 @@
 use crate::arguments::Shown;
 use crate::boundary::{Lender, Place, PolicyCall, Side, StoreCall};
 use crate::caches::Cache;
+use crate::certificate_examples;
 use crate::inputs::{lengths_of, list, NEW_VERSIONS, NO_VERSIONS, OLD_VERSIONS};
 use independent_rules::cache::{self, Entry, LookupAnswer, ROOM};
 use independent_rules::publish::{self, WriteAnswer};
 use independent_rules::rules::{self, HostCall, PolicyAnswer, TlsaAnswer};
 
-const MIDDLE: Place = Place { side: Side::Open(0), turn: 0 };
-const BEFORE_GUARD: Place = Place { side: Side::BeforeGuard, turn: 1 };
+pub const MIDDLE: Place = Place { side: Side::Open(0), turn: 0 };
+pub const BEFORE_GUARD: Place = Place { side: Side::BeforeGuard, turn: 1 };
 
-struct Check<'a> {
-    lender: &'a mut Lender,
+pub struct Check<'a> {
+    pub lender: &'a mut Lender,
     passed: u64,
     hosts: Vec<HostCall>,
 }
 
 impl Check<'_> {
-    fn same<T: PartialEq + std::fmt::Debug>(&mut self, what: &str, wanted: T, ours: T, theirs: T) {
+    pub fn same<T: PartialEq + std::fmt::Debug>(&mut self, what: &str, wanted: T, ours: T, theirs: T) {
         if ours != wanted || theirs != wanted {
             println!("EXAMPLE {what}: wanted {wanted:?}, rules {ours:?}, library {theirs:?}");
             std::process::exit(1);
@@ -178,7 +179,7 @@ pub fn plain() -> HostCall {
     }
 }
 
-const WEEK: &[u8] = b"version: STSv1\nmode: enforce\nmx: *.example.com\nmax_age: 604800\n";
+pub const WEEK: &[u8] = b"version: STSv1\nmode: enforce\nmx: *.example.com\nmax_age: 604800\n";
 const SHORT: &[u8] = b"version: STSv1\nmode: none\nmax_age: 10\n";
 const SHORTER: &[u8] = b"version: STSv1\nmode: none\nmax_age: 9";
 
@@ -691,5 +692,6 @@ pub fn run(lender: &mut Lender) -> (u64, Vec<HostCall>) {
     c.message(&[20, 10, 10], &[9, 22, 9], (8, 2));
     c.message(&[20, 10, 10], &[26, 22, 24], (31, 0));
     listed_verdicts(&mut c);
+    certificate_examples::run(&mut c);
     (c.passed, c.hosts)
 }

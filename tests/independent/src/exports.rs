@@ -2,6 +2,7 @@
 //! They are for the fuzz targets and the benchmark, which link this package's archive beside the library's.
 
 use crate::cache::{self, Entry, LookupAnswer};
+use crate::certificate::{self, CertificateAnswer};
 use crate::publish;
 use crate::rules::{self, HostCall, PolicyAnswer, TlsaAnswer};
 
@@ -222,4 +223,80 @@ pub unsafe extern "C" fn independent_rewrite_policy(
     output: *mut u8, output_length: usize) -> Write {
     let (number, length) = publish::rewrite_policy(lent(body, body_length), lent_to_write(output, output_length));
     Write { number, length }
+}
+
+/// # Safety
+/// The slices are valid, and the places are apart from the other.
+#[no_mangle]
+#[rustfmt::skip]
+pub unsafe extern "C" fn independent_read_certificate(
+    certificate: *const u8, certificate_length: usize,
+    places: *mut u8, places_length: usize) -> CertificateAnswer {
+    certificate::read_certificate(lent(certificate, certificate_length), lent_to_write(places, places_length))
+}
+
+/// # Safety
+/// The slices are valid.
+#[no_mangle]
+#[rustfmt::skip]
+pub unsafe extern "C" fn independent_judge_host_certificate(
+    clock: u64,
+    next_hop: *const u8, next_hop_length: usize,
+    expanded_next_hop_given: u64,
+    expanded_next_hop: *const u8, expanded_next_hop_length: usize,
+    origin: u64,
+    host: *const u8, host_length: usize,
+    address: u64,
+    expanded: *const u8, expanded_length: usize,
+    policy_given: u64,
+    policy: *const u8, policy_length: usize,
+    fetched: u64,
+    tlsa_answers: u64,
+    tlsa1_result: u64,
+    tlsa1_lengths: *const u8, tlsa1_lengths_length: usize,
+    tlsa1_records: *const u8, tlsa1_records_length: usize,
+    tlsa2_result: u64,
+    tlsa2_lengths: *const u8, tlsa2_lengths_length: usize,
+    tlsa2_records: *const u8, tlsa2_records_length: usize,
+    starttls: u64,
+    handshake: u64,
+    tls_version: u64,
+    certificates_given: u64,
+    certificates: *const u8, certificates_length: usize,
+    certificate_lengths: *const u8, certificate_lengths_length: usize,
+    key_places: *const u8, key_places_length: usize,
+    digests: *const u8, digests_length: usize,
+    paths: *const u8, paths_length: usize,
+    trusted_root: u64) -> Host {
+    let call: HostCall<&[u8]> = HostCall {
+        clock,
+        next_hop: lent(next_hop, next_hop_length),
+        expanded_next_hop_given,
+        expanded_next_hop: lent(expanded_next_hop, expanded_next_hop_length),
+        origin,
+        host: lent(host, host_length),
+        address,
+        expanded: lent(expanded, expanded_length),
+        policy_given,
+        policy: lent(policy, policy_length),
+        fetched,
+        tlsa_answers,
+        tlsa: [
+            TlsaAnswer { result: tlsa1_result, lengths: lent(tlsa1_lengths, tlsa1_lengths_length), records: lent(tlsa1_records, tlsa1_records_length) },
+            TlsaAnswer { result: tlsa2_result, lengths: lent(tlsa2_lengths, tlsa2_lengths_length), records: lent(tlsa2_records, tlsa2_records_length) },
+        ],
+        starttls,
+        handshake,
+        tls_version,
+        certificates_given,
+        certificates: lent(certificates, certificates_length),
+        certificate_lengths: lent(certificate_lengths, certificate_lengths_length),
+        key_places: lent(key_places, key_places_length),
+        digests: lent(digests, digests_length),
+        paths: lent(paths, paths_length),
+        trusted_root,
+        ..HostCall::default()
+    };
+    let (number, tlsa_questions) = certificate::judge_host_certificate(&call);
+    Host { number, tlsa_questions }
 }

@@ -2,6 +2,7 @@
 //! them.
 
 pub mod cache;
+pub mod certificate;
 pub mod exports;
 pub mod publish;
 pub mod rules;

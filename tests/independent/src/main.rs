@@ -1,25 +1,29 @@
 //! Differential tests: the library's C boundary against an independent writing of the rules of documents 01 and 02.
 //!
 //! independent [CASES [SEED]]: CASES inputs for each call (2,500,000 unless given; environment INDEPENDENT_CASES), fewer for the
-//! cache and for policies that are written, from SEED (environment INDEPENDENT_SEED). INDEPENDENT_ONLY=CALL:CASE runs a single case
-//! (CALL: txt, policy, host, message, write_txt, write_policy, rewrite_policy, lengths, cache, histories) and prints it, with what
-//! both answer.
+//! cache, for policies that are written and for certificates, from SEED (environment INDEPENDENT_SEED). INDEPENDENT_ONLY=CALL:CASE
+//! runs a single case (CALL: txt, policy, host, message, write_txt, write_policy, rewrite_policy, certificate, host_certificate,
+//! lengths, cache, histories) and prints it, with what both answer.
 
 mod arguments;
 mod boundary;
 mod caches;
+mod certificate_examples;
+mod certificates;
 mod claims;
 mod completions;
 mod examples;
 mod faults;
 mod histories;
 mod inputs;
+mod leaves;
 mod lengths;
 mod next_hops;
 mod publications;
 mod publishing;
 mod random;
 mod round_trips;
+mod trees;
 mod versions;
 
 use boundary::{Lender, Place};
@@ -33,8 +37,13 @@ use std::fmt::Debug;
 use std::panic::AssertUnwindSafe;
 use std::time::Instant;
 
-const CALLS: [&str; 7] = ["txt", "policy", "host", "message", "write_txt", "write_policy", "rewrite_policy"];
-const ANSWERS: [&[u64]; 7] = [
+const CALLS: [&str; 9] =
+    ["txt", "policy", "host", "message", "write_txt", "write_policy", "rewrite_policy", "certificate", "host_certificate"];
+const HOST_CERTIFICATE_ANSWERS: [u64; 35] = [
+    1, 2, 3, 4, 5, 10, 11, 12, 13, 14, 20, 21, 22, 23, 24, 25, 26, 27, 28, 50, 52, 53, 54, 55, 56, 57, 60, 61, 62, 64, 65, 66, 67,
+    90, 91,
+];
+const ANSWERS: [&[u64]; 9] = [
     &[6, 40, 41, 42, 43, 44],
     &[7, 50, 52, 53, 54, 55, 56, 57],
     &[
@@ -45,13 +54,15 @@ const ANSWERS: [&[u64]; 7] = [
     &[15, 80, 83],
     &[15, 67, 81, 82, 83],
     &[15, 50, 52, 53, 54, 55, 56, 57, 81, 83],
+    &[15, 83, 90, 91],
+    &HOST_CERTIFICATE_ANSWERS,
 ];
 /// The random stream of each call. The others are of the tests that are no single call.
-const STREAMS: [u64; 7] = [0, 1, 2, 3, 8, 9, 10];
+const STREAMS: [u64; 9] = [0, 1, 2, 3, 8, 9, 10, 14, 18];
 /// Of the cases that are asked for, a call gets one in so many.
-const ONE_IN: [u64; 7] = [1, 1, 1, 1, 1, 4, 4];
-/// Of so many cases each answer of a call has to come, each fault of a policy in every place, and each way of the expanded
-/// next-hop, of the version and of the calls that write.
+const ONE_IN: [u64; 9] = [1, 1, 1, 1, 1, 4, 4, 5, 10];
+/// Of so many cases each answer of a call has to come, each fault of a policy in every place, each fault of a certificate, and each
+/// way of the expanded next-hop, of the version, of the calls that write and of those that read a certificate.
 const MANY: u64 = 100_000;
 const THREADS: u64 = 2;
 
@@ -102,19 +113,22 @@ fn run_case(lender: &mut Lender, seed: u64, call: usize, case: u64, seen: &mut S
         }
         4 => publishing::write_txt(lender, &mut r, place, &mut seen.ways),
         5 => publishing::write_policy(lender, &mut r, place, &mut seen.ways),
-        _ => publishing::rewrite_policy(lender, &mut r, place, &mut seen.ways),
+        6 => publishing::rewrite_policy(lender, &mut r, place, &mut seen.ways),
+        7 => certificates::read_certificate(lender, &mut r, place, &mut seen.certificates),
+        _ => leaves::judge(lender, &mut r, place, &mut seen.ways),
     }
 }
 
 type Table = BTreeMap<u64, u64>;
 
-/// How often each answer number of a call came, where the lines that offend stood, what hung on the expanded next-hop, and the ways
-/// of the version or of a call that writes.
+/// How often each answer number of a call came, where the lines that offend stood, what hung on the expanded next-hop, what was
+/// wrong with certificates, and the ways of the version, of a call that writes or of one that reads the leaf.
 #[derive(Default)]
 struct Seen {
     numbers: Table,
     faults: Faults,
     next_hops: NextHops,
+    certificates: certificates::Seen,
     ways: Ways,
 }
 
@@ -132,6 +146,10 @@ impl Seen {
         if CALLS[call] == "host" {
             self.next_hops.report();
             missing = missing.or(self.next_hops.missing(cases));
+        }
+        if CALLS[call] == "certificate" {
+            self.certificates.report();
+            missing = missing.or(self.certificates.missing(cases));
         }
         self.ways.report();
         missing = missing.or(self.ways.missing(cases));
@@ -211,6 +229,8 @@ fn main() {
     passed += claims::run(&mut lender, seed, (cases / 5_000).max(300));
     passed += round_trips::run(&mut lender, seed, (cases / 25).max(5_000));
     passed += versions::run(&mut lender, seed, (cases / 10).max(100_000), &hosts);
+    passed += certificates::run(&mut lender, seed);
+    passed += leaves::run(&mut lender, seed, (cases / 25).max(50_000));
     let begun = Instant::now();
     let mut table = Table::new();
     let some = cases / 4;
@@ -239,14 +259,17 @@ fn main() {
     let threads: Vec<_> = (1..=THREADS)
         .map(|t| {
             std::thread::spawn(move || {
-                let mut lender = Lender::new();
+                let (mut lender, mut passed) = (Lender::new(), 0);
                 for block in 0..each / 100 {
                     for call in 0..CALLS.len() {
-                        run(&mut lender, seed.wrapping_add(t), call, block * 100..(block + 1) * 100, &mut Seen::default());
+                        let some = 100 / ONE_IN[call];
+                        run(&mut lender, seed.wrapping_add(t), call, block * some..(block + 1) * some, &mut Seen::default());
+                        passed += some;
                     }
                     histories::run_one(&mut lender, seed.wrapping_add(t), block);
+                    passed += 1;
                 }
-                each / 100 * (100 * CALLS.len() as u64 + 1)
+                passed
             })
         })
         .collect();

@@ -1,4 +1,4 @@
--- `tweedstork::tweedstork_judge_host` meets its contract: `hosts::judge_host` gives the answer of the definition, every number fits and every slice is of bytes, and
+-- `tweedstork::tweedstork_judge_host` meets its contract: `hosts::judge_call` gives the answer of the definition, every number fits and every slice is of bytes, and
 -- of such arguments demands 2 and 3 are proved. Assumes nothing.
 use native.Mathlib.Omega.{arith}
 use borrow.Author.Needs.{needs}
@@ -61,13 +61,13 @@ is-bytes-requires-16 c κs = search needs
 is-bytes-requires-17 : tie.Need-is-bytes-requires-17
 is-bytes-requires-17 c κs = search needs
 
-judge-host-requires : tie.Need-judge-host-requires
-judge-host-requires c κs = search needs
+judge-call-requires : tie.Need-judge-call-requires
+judge-call-requires c κs = search needs
 
 returns : tie.Need-returns
 returns c =
     let start = c .before .before .before .before .before .before .before .before .before .before .before .before .before .before .before .before .before .before .before .before .before .before .before .before .before .before .before .before .before .before .before .before .before .before .before in
-    judged _ _ (is-passed _ (all-cons isNumber _ _ (number-below (start .args .clock) (omega (arith, start .fits .clock .fits))) (all-cons isNumber _ _ (number-below (start .args .expanded-next-hop-given) (omega (arith, start .fits .expanded-next-hop-given .fits))) (all-cons isNumber _ _ (number-below (start .args .origin) (omega (arith, start .fits .origin .fits))) (all-cons isNumber _ _ (number-below (start .args .address) (omega (arith, start .fits .address .fits))) (all-cons isNumber _ _ (number-below (start .args .policy-given) (omega (arith, start .fits .policy-given .fits))) (all-cons isNumber _ _ (number-below (start .args .fetched) (omega (arith, start .fits .fetched .fits))) (all-cons isNumber _ _ (number-below (start .args .tlsa-answers) (omega (arith, start .fits .tlsa-answers .fits))) (all-cons isNumber _ _ (number-below (start .args .tlsa1-result) (omega (arith, start .fits .tlsa1-result .fits))) (all-cons isNumber _ _ (number-below (start .args .tlsa2-result) (omega (arith, start .fits .tlsa2-result .fits))) (all-cons isNumber _ _ (number-below (start .args .starttls) (omega (arith, start .fits .starttls .fits))) (all-cons isNumber _ _ (number-below (start .args .handshake) (omega (arith, start .fits .handshake .fits))) (all-cons isNumber _ _ (number-below (start .args .tls-version) (omega (arith, start .fits .tls-version .fits))) (all-cons isNumber _ _ (number-below (start .args .certificates-given) (omega (arith, start .fits .certificates-given .fits))) (all-cons isNumber _ _ (number-below (start .args .trusted-root) (omega (arith, start .fits .trusted-root .fits))) (all-cons isNumber _ _ (number-below (start .args .common-name-given) (omega (arith, start .fits .common-name-given .fits))) (all-nil isNumber)))))))))))))))) (all-cons isBytes _ _ (c .before .before .before .before .before .before .before .before .before .before .before .before .before .before .before .before .before .is-bytes .ensures) (all-cons isBytes _ _ (c .before .before .before .before .before .before .before .before .before .before .before .before .before .before .before .before .is-bytes2 .ensures) (all-cons isBytes _ _ (c .before .before .before .before .before .before .before .before .before .before .before .before .before .before .before .is-bytes3 .ensures) (all-cons isBytes _ _ (c .before .before .before .before .before .before .before .before .before .before .before .before .before .before .is-bytes4 .ensures) (all-cons isBytes _ _ (c .before .before .before .before .before .before .before .before .before .before .before .before .before .is-bytes5 .ensures) (all-cons isBytes _ _ (c .before .before .before .before .before .before .before .before .before .before .before .before .is-bytes6 .ensures) (all-cons isBytes _ _ (c .before .before .before .before .before .before .before .before .before .before .before .is-bytes7 .ensures) (all-cons isBytes _ _ (c .before .before .before .before .before .before .before .before .before .before .is-bytes8 .ensures) (all-cons isBytes _ _ (c .before .before .before .before .before .before .before .before .before .is-bytes9 .ensures) (all-cons isBytes _ _ (c .before .before .before .before .before .before .before .before .is-bytes10 .ensures) (all-cons isBytes _ _ (c .before .before .before .before .before .before .before .is-bytes11 .ensures) (all-cons isBytes _ _ (c .before .before .before .before .before .before .is-bytes12 .ensures) (all-cons isBytes _ _ (c .before .before .before .before .before .is-bytes13 .ensures) (all-cons isBytes _ _ (c .before .before .before .before .is-bytes14 .ensures) (all-cons isBytes _ _ (c .before .before .before .is-bytes15 .ensures) (all-cons isBytes _ _ (c .before .before .is-bytes16 .ensures) (all-cons isBytes _ _ (c .before .is-bytes17 .ensures) (all-nil isBytes))))))))))))))))))) (c .judge-host .ensures)
+    judged _ _ (is-passed _ (all-cons isNumber _ _ (number-below (start .args .clock) (omega (arith, start .fits .clock .fits))) (all-cons isNumber _ _ (number-below (start .args .expanded-next-hop-given) (omega (arith, start .fits .expanded-next-hop-given .fits))) (all-cons isNumber _ _ (number-below (start .args .origin) (omega (arith, start .fits .origin .fits))) (all-cons isNumber _ _ (number-below (start .args .address) (omega (arith, start .fits .address .fits))) (all-cons isNumber _ _ (number-below (start .args .policy-given) (omega (arith, start .fits .policy-given .fits))) (all-cons isNumber _ _ (number-below (start .args .fetched) (omega (arith, start .fits .fetched .fits))) (all-cons isNumber _ _ (number-below (start .args .tlsa-answers) (omega (arith, start .fits .tlsa-answers .fits))) (all-cons isNumber _ _ (number-below (start .args .tlsa1-result) (omega (arith, start .fits .tlsa1-result .fits))) (all-cons isNumber _ _ (number-below (start .args .tlsa2-result) (omega (arith, start .fits .tlsa2-result .fits))) (all-cons isNumber _ _ (number-below (start .args .starttls) (omega (arith, start .fits .starttls .fits))) (all-cons isNumber _ _ (number-below (start .args .handshake) (omega (arith, start .fits .handshake .fits))) (all-cons isNumber _ _ (number-below (start .args .tls-version) (omega (arith, start .fits .tls-version .fits))) (all-cons isNumber _ _ (number-below (start .args .certificates-given) (omega (arith, start .fits .certificates-given .fits))) (all-cons isNumber _ _ (number-below (start .args .trusted-root) (omega (arith, start .fits .trusted-root .fits))) (all-cons isNumber _ _ (number-below (start .args .common-name-given) (omega (arith, start .fits .common-name-given .fits))) (all-nil isNumber)))))))))))))))) (all-cons isBytes _ _ (c .before .before .before .before .before .before .before .before .before .before .before .before .before .before .before .before .before .is-bytes .ensures) (all-cons isBytes _ _ (c .before .before .before .before .before .before .before .before .before .before .before .before .before .before .before .before .is-bytes2 .ensures) (all-cons isBytes _ _ (c .before .before .before .before .before .before .before .before .before .before .before .before .before .before .before .is-bytes3 .ensures) (all-cons isBytes _ _ (c .before .before .before .before .before .before .before .before .before .before .before .before .before .before .is-bytes4 .ensures) (all-cons isBytes _ _ (c .before .before .before .before .before .before .before .before .before .before .before .before .before .is-bytes5 .ensures) (all-cons isBytes _ _ (c .before .before .before .before .before .before .before .before .before .before .before .before .is-bytes6 .ensures) (all-cons isBytes _ _ (c .before .before .before .before .before .before .before .before .before .before .before .is-bytes7 .ensures) (all-cons isBytes _ _ (c .before .before .before .before .before .before .before .before .before .before .is-bytes8 .ensures) (all-cons isBytes _ _ (c .before .before .before .before .before .before .before .before .before .is-bytes9 .ensures) (all-cons isBytes _ _ (c .before .before .before .before .before .before .before .before .is-bytes10 .ensures) (all-cons isBytes _ _ (c .before .before .before .before .before .before .before .is-bytes11 .ensures) (all-cons isBytes _ _ (c .before .before .before .before .before .before .is-bytes12 .ensures) (all-cons isBytes _ _ (c .before .before .before .before .before .is-bytes13 .ensures) (all-cons isBytes _ _ (c .before .before .before .before .is-bytes14 .ensures) (all-cons isBytes _ _ (c .before .before .before .is-bytes15 .ensures) (all-cons isBytes _ _ (c .before .before .is-bytes16 .ensures) (all-cons isBytes _ _ (c .before .is-bytes17 .ensures) (all-nil isBytes))))))))))))))))))) (c .judge-call .ensures)
 
 pub tweedstork-judge-host-spec : {M : Type 1} → statement M
 tweedstork-judge-host-spec =
@@ -90,5 +90,5 @@ tweedstork-judge-host-spec =
     is-bytes-requires-15
     is-bytes-requires-16
     is-bytes-requires-17
-    judge-host-requires
+    judge-call-requires
     returns)

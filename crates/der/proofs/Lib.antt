@@ -1,0 +1,4 @@
+pub mod Sizes
+pub mod Heads
+pub mod Elements
+pub mod Walks

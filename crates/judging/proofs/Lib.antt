@@ -1,0 +1,10 @@
+pub mod Texts
+pub mod Read
+pub mod Chain
+pub mod Order
+pub mod Agree
+pub mod Handed
+pub mod OnlyNames
+pub mod Exactly
+pub mod Returns
+pub mod Worked

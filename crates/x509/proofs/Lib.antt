@@ -1,0 +1,10 @@
+pub mod Table
+pub mod Walks
+pub mod Parts
+pub mod Plain
+pub mod Longer
+pub mod Past
+pub mod Whole
+pub mod Leads
+pub mod Notes
+pub mod Faults
