@@ -43,6 +43,8 @@ static const struct promise {
     {CALLS, one_usage_3_record, 1.3, "a host with one record", "as above"},
     {CALLS, one_usage_2_record, 1.3, "a host with one record of usage 2", "as above"},
     {CALLS, one_usage_2_record_expanded, 1.3, "a host that the expanded next-hop names", "as above"},
+    {CALLS, both_digests, 1.3, "a host with records of both digests", "as above"},
+    {CALLS, ignored_records, 1.5, "31 records that are ignored beside a SHA-512 one", "as above; a set is gone through for lengths, for SHA-512 records and for the match, each in a pass of its own, and plain C learns the first two in one"},
     {LAST_RECORD_MATCHES, NULL, 1.2, "TLSA records of which the last matches", "as above"},
     {CERTIFICATES, NULL, 1.3, "certificates of a host", "as above"},
     {DECISIONS, NULL, 1.4, "decisions", "as above, four or five calls each"},

@@ -604,7 +604,10 @@ static void add_publishing(struct inputs *inputs)
 
 /* ---- hosts ---- */
 
-enum { CERTIFICATE = 1500, KEY_START = 300, KEY_INFO = 294, DIGESTS = 192, KEY_SHA256 = 96, SHA256 = 32, RECORD = 3 + SHA256 };
+enum {
+    CERTIFICATE = 1500, KEY_START = 300, KEY_INFO = 294, DIGESTS = 192, KEY_SHA256 = 96, SHA256 = 32, KEY_SHA512 = KEY_SHA256 + SHA256, SHA512 = 64,
+    RECORD = 3 + SHA256
+};
 
 /* Facts up to an established handshake at TLS 1.3, with certificates and two DNS-IDs; neither TLSA answers nor a policy. */
 static struct facts facts_with(size_t certificates)
@@ -656,6 +659,16 @@ static void give_records(struct facts *f, size_t count, uint8_t usage)
 static void match(struct facts *f, size_t record, size_t certificate)
 {
     memcpy(f->tlsa[0].records.at + record * RECORD + 3, f->digests.at + certificate * DIGESTS + KEY_SHA256, SHA256);
+}
+
+/* One more record usage 1 2, whose digest is this. */
+static void add_sha512(struct facts *f, uint8_t usage, struct bytes digest)
+{
+    struct bytes head = room(3);
+
+    memcpy(head.at, (const uint8_t[]){usage, 1, 2}, head.length);
+    f->tlsa[0].lengths = joined(f->tlsa[0].lengths, list_of(1, head.length + digest.length));
+    f->tlsa[0].records = joined(f->tlsa[0].records, joined(head, digest));
 }
 
 static void give_policy(struct facts *f)
@@ -712,7 +725,24 @@ static struct facts *add_host(struct inputs *inputs, enum table table, const cha
 const char one_usage_3_record[] = "host, 1 TLSA record 3 1 1, 8 certificates";
 const char one_usage_2_record[] = "host, 1 TLSA record 2 1 1, 8 certificates";
 const char one_usage_2_record_expanded[] = "host, 1 TLSA record 2 1 1, 8 certificates, named by the expanded next-hop";
+const char both_digests[] = "host, TLSA records 3 1 1 and 3 1 2, the SHA-512 matches, 8 certificates";
+const char ignored_records[] = "host, 31 TLSA records 3 1 1, then a 3 1 2 that matches nothing, 8 certificates";
 const char certificates_beside_old_tls[] = "host, 1 TLSA record 3 1 1, 8 certificates, TLS 1.0";
+
+/* Every SHA-256 record is ignored beside a SHA-512 of its usage and selector, also the one that matches. */
+static void add_hosts_with_sha512(struct inputs *inputs)
+{
+    struct facts *f = add_host(inputs, CALLS, both_digests, 8, TWEEDSTORK_DANE, 1);
+    struct bytes other = room(SHA512);
+
+    give_records(f, 1, 3);
+    add_sha512(f, 3, part(f->digests, KEY_SHA512, SHA512));
+    f = add_host(inputs, CALLS, ignored_records, 8, TWEEDSTORK_DANE_MISMATCH, 1);
+    give_records(f, 31, 3);
+    match(f, 30, 0);
+    scramble(other, 4);
+    add_sha512(f, 3, other);
+}
 
 static void add_single_hosts(struct inputs *inputs)
 {
@@ -727,6 +757,7 @@ static void add_single_hosts(struct inputs *inputs)
     f = add_host(inputs, CALLS, "host, 32 TLSA records 3 1 1, 8 certificates", 8, TWEEDSTORK_DANE, 1);
     give_records(f, 32, 3);
     match(f, 31, 0);
+    add_hosts_with_sha512(inputs);
     f = add_host(inputs, CALLS, one_usage_2_record, 8, TWEEDSTORK_DANE, 1);
     give_records(f, 1, 2);
     match(f, 0, 7);

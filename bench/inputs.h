@@ -90,7 +90,7 @@ struct inputs {
 struct inputs *build_inputs(void);
 
 /* The names of inputs with a promise of their own. */
-extern const char many_dns_ids_by_leaf[], refused_at_the_first_byte[], refused_at_the_last_element[], lookup_of_none[], measured_rewriting[], one_usage_3_record[], one_usage_2_record[], one_usage_2_record_expanded[], certificates_beside_old_tls[], whole_certificate_decision[],
+extern const char many_dns_ids_by_leaf[], refused_at_the_first_byte[], refused_at_the_last_element[], lookup_of_none[], measured_rewriting[], one_usage_3_record[], one_usage_2_record[], one_usage_2_record_expanded[], both_digests[], ignored_records[], certificates_beside_old_tls[], whole_certificate_decision[],
     dane_decision_by_leaf[], mta_sts_decision_by_leaf[];
 
 /* The first input of a table. */

@@ -1102,7 +1102,14 @@ static int is_usable(const uint8_t *record, size_t length)
     return record[2] == 0 ? length > 3 : record[2] == 1 ? length == 3 + SHA256 : record[2] == 2 && length == 3 + SHA512;
 }
 
-static enum set set_of(const struct tlsa_answer *tlsa)
+/* A bit for the usage and selector of a usable record: four pairs. */
+static unsigned pair_of(const uint8_t *record)
+{
+    return 1u << (2 * (record[0] - 2) + record[1]);
+}
+
+/* The set of an answer; of one with usable records, also the pairs that have a SHA-512 among them. */
+static enum set set_of(const struct tlsa_answer *tlsa, unsigned *strong)
 {
     const uint8_t *record = tlsa->records.at;
     enum set set = tlsa->lengths.length == 0 ? NO_SET : UNUSABLE_SET;
@@ -1111,8 +1118,11 @@ static enum set set_of(const struct tlsa_answer *tlsa)
         size_t length = number_at(tlsa->lengths.at + i);
         if (length < 3)
             return BROKEN_SET;
-        if (is_usable(record, length))
+        if (is_usable(record, length)) {
             set = USABLE_SET;
+            if (record[2] == 2)
+                *strong |= pair_of(record);
+        }
         record += length;
     }
     return set;
@@ -1193,15 +1203,22 @@ static int names_reference(const struct shown *s, const struct reference *refere
     return s->common_name_given == TWEEDSTORK_YES && covers_one(s->common_name, references, count);
 }
 
+/* Is a usable record a SHA-256 beside a SHA-512 of its pair? */
+static int is_ignored(const uint8_t *record, unsigned strong)
+{
+    return record[2] == 1 && (strong & pair_of(record)) != 0;
+}
+
 /* There is a certificate. The names are looked at once, when the first record of usage 2 matches. */
-static int dane_passes(const struct tlsa_answer *tlsa, const struct shown *s, const struct reference *references, size_t count)
+static int dane_passes(
+    const struct tlsa_answer *tlsa, unsigned strong, const struct shown *s, const struct reference *references, size_t count)
 {
     struct slice record = {tlsa->records.at, 0};
     int named = 1;
 
     for (size_t i = 0; i < tlsa->lengths.length; i += 4, record.at += record.length) {
         record.length = number_at(tlsa->lengths.at + i);
-        if (!is_usable(record.at, record.length))
+        if (!is_usable(record.at, record.length) || is_ignored(record.at, strong))
             continue;
         if (record.at[0] == 3 && matches(record, s, 0, 0))
             return 1;
@@ -1244,6 +1261,7 @@ static size_t tlsa_names(uint64_t address)
 struct walk {
     enum set set;
     const struct tlsa_answer *tlsa; /* the answer that the set stands in */
+    unsigned strong;                /* its pairs of usage and selector that have a usable SHA-512 */
     struct slice base;              /* the name that it was found at */
     uint64_t questions;
     int needs_mta_sts;
@@ -1263,7 +1281,7 @@ static uint64_t walk_tlsa(const struct facts *f, struct walk *w)
             return TWEEDSTORK_TLSA_FAILED;
         if (f->tlsa[i].result != TWEEDSTORK_TLSA_SECURE)
             continue;
-        w->set = set_of(&f->tlsa[i]);
+        w->set = set_of(&f->tlsa[i], &w->strong);
         if (w->set == BROKEN_SET)
             return TWEEDSTORK_TLSA_FAILED;
         if (w->set != NO_SET) {
@@ -1301,7 +1319,7 @@ static struct tweedstork_host_answer judge_certificates(const struct facts *f, c
     if (needs_dane) {
         struct reference references[MOST_REFERENCES];
         size_t count = make_references(f, w->base, references);
-        if (!any || !dane_passes(w->tlsa, s, references, count))
+        if (!any || !dane_passes(w->tlsa, w->strong, s, references, count))
             return answer(TWEEDSTORK_DANE_MISMATCH, w->questions);
     }
     if (!w->needs_mta_sts)
@@ -1335,7 +1353,7 @@ static struct tweedstork_host_answer judge_tls(const struct facts *f, const stru
 /* The facts are within the limits. */
 static struct tweedstork_host_answer judge(const struct facts *f, int needs_mta_sts, int covers_host, const struct reference *host)
 {
-    struct walk w = {NO_SET, NULL, {NULL, 0}, 0, needs_mta_sts};
+    struct walk w = {NO_SET, NULL, 0, {NULL, 0}, 0, needs_mta_sts};
 
     if (f->address == TWEEDSTORK_ADDRESS_LOOKUP_FAILED)
         return answer(TWEEDSTORK_ADDRESS_FAILED, 0);

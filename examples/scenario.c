@@ -187,24 +187,32 @@ static int make_leaf(struct scenario_host *host)
     return put_before(&host->certificates.joined, leaf.bytes, leaf.length);
 }
 
+/* A digest of this size, in hexadecimal; zeros where the scenario doesn't say it (NULL). */
+static int append_digest(struct scenario_bytes *digests, const char *hex, size_t size)
+{
+    static const uint8_t not_said[64];
+    size_t before = digests->length;
+
+    return hex == NULL ? append(digests, not_said, size) : read_hex(hex, digests) && digests->length == before + size;
+}
+
 /*
- * certificate PATH HEX: one more certificate; does the path from the leaf to it verify, and the SHA-256 of its public key info.
- * A relay has the certificate, its key info and all four digests from its TLS library; here a text stands for a certificate after
- * the leaf, and the three digests that no record of ours asks for are zero. The leaf is made when all its names are read.
+ * certificate PATH HEX [HEX]: one more certificate; does the path from the leaf to it verify, the SHA-256 of its public key info,
+ * and perhaps its SHA-512. A relay has the certificate, its key info and all four digests from its TLS library; here a text stands
+ * for a certificate after the leaf, and the digests that no record of ours asks for are zero. The leaf is made when all its names
+ * are read.
  */
-static int add_certificate(struct scenario_host *host, const char *path, const char *key_sha256)
+static int add_certificate(struct scenario_host *host, const char *path, const char *key_sha256, const char *key_sha512)
 {
     static const char text[] = "a certificate with its key";
-    static const uint8_t no_digests[96];
     uint64_t verifies;
-    size_t before = host->digests.length;
     int is_leaf = host->certificates.lengths.length == 0;
 
     return choose(path, yes_no, &verifies) && append_number(&host->paths, (uint32_t)verifies) &&
            append_part(&host->certificates, text, is_leaf ? 0 : sizeof text - 1) &&
            (is_leaf || (append_number(&host->key_places, (uint32_t)(strstr(text, "key") - text)) && append_number(&host->key_places, 3))) &&
-           append(&host->digests, no_digests, sizeof no_digests) && read_hex(key_sha256, &host->digests) &&
-           host->digests.length == before + 96 + 32 && append(&host->digests, no_digests, 64);
+           append_digest(&host->digests, NULL, 32) && append_digest(&host->digests, NULL, 64) &&
+           append_digest(&host->digests, key_sha256, 32) && append_digest(&host->digests, key_sha512, 64);
 }
 
 /* dns-id NAME: one more DNS-ID of the leaf, as an element of GeneralNames. */
@@ -302,8 +310,8 @@ static int read_host_line(struct scenario_host *host, struct scenario_tlsa **tls
 
     if (count == 3 && strcmp(keyword, "alias") == 0)
         return choose(words[1], aliases, &host->address) && append_text(&host->expanded, words[2]);
-    if (count == 3 && strcmp(keyword, "certificate") == 0)
-        return add_certificate(host, words[1], words[2]);
+    if ((count == 3 || count == 4) && strcmp(keyword, "certificate") == 0)
+        return add_certificate(host, words[1], words[2], count == 4 ? words[3] : NULL);
     if (count == 5 && strcmp(keyword, "record") == 0)
         return add_record(*tlsa, words);
     if (strcmp(keyword, "handshake") == 0)

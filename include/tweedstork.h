@@ -29,7 +29,7 @@
  * - a TLSA record under 3 bytes counts as a failed lookup (22), and not as an unusable record;
  * - usage 2 never matches the leaf, self-signed or not (as long as the relay gives no path to a copy of it);
  * - an underscore is no part of a name (60, 61), also in an expanded name that no rule reads;
- * - a SHA-256 record still counts beside a SHA-512 one (digest agility, RFC 7672, 5): it will be added;
+ * - SHA-512 is taken as stronger than SHA-256, and no other order can be set (RFC 7671, 9 says that it should be configurable);
  * - where the library reads the leaf itself, one that is malformed or has over 64 DNS-IDs is refused (90, 91), also where a record
  *   of usage 3 would match it; TLS libraries let some of that pass;
  * - a policy with an empty last line is refused (53), as the RFC's grammar has it; some readers let it pass.
@@ -61,8 +61,8 @@ extern "C" {
 #endif
 
 /* The version of this header. A number that another version gave a meaning to is never given a second one. */
-#define TWEEDSTORK_VERSION "1.7.0"
-#define TWEEDSTORK_VERSION_NUMBER 10700 /* major * 10000 + minor * 100 + patch */
+#define TWEEDSTORK_VERSION "1.8.0"
+#define TWEEDSTORK_VERSION_NUMBER 10800 /* major * 10000 + minor * 100 + patch */
 
 /* The version of the archive. It equals TWEEDSTORK_VERSION_NUMBER where header and archive belong together. */
 uint64_t tweedstork_version(void);
@@ -508,8 +508,8 @@ struct tweedstork_host_answer {
  *          Then, as far as learnt, in this order:
  *          - tlsa_answers: how many TLSA answers are given, 0 to 2, in the order asked for (insecure, absent and failed are
  *            answers too, and count); of each its result (tlsa1_result, tlsa2_result: enum tweedstork_tlsa_result) and, where
- *            that is TWEEDSTORK_TLSA_SECURE, its records: their RDATAs one after another, and a list of their lengths (up to 32
- *            records of up to 4,096 bytes);
+ *            that is TWEEDSTORK_TLSA_SECURE, all its records, since which of them count depends on the others: their RDATAs one
+ *            after another, and a list of their lengths (up to 32 records of up to 4,096 bytes);
  *          - starttls (enum tweedstork_starttls);
  *          - handshake (enum tweedstork_handshake), and where it is TWEEDSTORK_ESTABLISHED tls_version, the version of TLS
  *            that it agreed on (enum tweedstork_tls_version, or any other number up to 65,535). Left zero it is an old
@@ -537,6 +537,10 @@ struct tweedstork_host_answer {
  *          handshake agreed on a version below TLS 1.2. No certificate can change that, so none is asked for: 26 and 27 come
  *          from TLS 1.2 on. Where no authentication is needed every version gives 2, also where there are TLSA records and
  *          none of them is usable.
+ *
+ *          26 where the TLSA records have a usable one, and no usable one matches that is not ignored. A SHA-256 record (matching
+ *          type 1) is ignored where a usable SHA-512 record (2) of the same usage and selector stands in the same answer, whether
+ *          or not that one matches (RFC 7672, 5; RFC 7671, 9). Matching type 0 is never ignored.
  *
  *          Refusals, in this order: TWEEDSTORK_BAD_CODE, TWEEDSTORK_BAD_CLOCK, TWEEDSTORK_BAD_NEXT_HOP, TWEEDSTORK_BAD_HOST,
  *          those of tweedstork_read_policy, TWEEDSTORK_BAD_TLSA, TWEEDSTORK_BAD_CERTIFICATES, and last TWEEDSTORK_FACT_MISSING.
@@ -878,10 +882,10 @@ struct tweedstork_tlsa_answer {
  * nor, once the handshake is established, tls_version (28 where authentication is needed).
  *
  * No call can refuse these: with a policy fetched is never zero (the policy would be stale), a secure TLSA answer has all its
- * records (without them it is the same as absent), clock is never zero (every policy would stay live), tls_version is what the
- * handshake agreed on (the highest version offered would let old TLS pass), and expanded_next_hop is from the secure MX answer
- * (any other name would be one that the certificate may have). The first two can end in delivery in cleartext, the last in
- * delivery to somebody else's server.
+ * records (with none it is the same as absent; without its SHA-512 record a stale SHA-256 one would count), clock is never zero
+ * (every policy would stay live), tls_version is what the handshake agreed on (the highest version offered would let old TLS
+ * pass), and expanded_next_hop is from the secure MX answer (any other name would be one that the certificate may have). The first
+ * two can end in delivery in cleartext, the second and the last in delivery to somebody else's server.
  */
 struct tweedstork_host_facts {
     uint64_t clock;

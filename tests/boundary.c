@@ -259,7 +259,7 @@ static struct tweedstork_host_facts known(uint64_t address, const char *policy)
     return facts;
 }
 
-/* A further TLSA answer with one record, of 35 bytes at most. */
+/* A further TLSA answer with one record, of 255 bytes at most. */
 static void learn_tlsa(struct tweedstork_host_facts *facts, uint64_t result, const char *record, uint8_t length, uint8_t lengths[4])
 {
     struct tweedstork_tlsa_answer *answer = &facts->tlsa[facts->tlsa_answers++];
@@ -542,6 +542,52 @@ static void refused_versions(void)
     }
 }
 
+/*
+ * Document 02, No. 8: a record of SHA-256 is ignored beside one of SHA-512 in its own set. The set at the other name, or one that is not
+ * secure, is another set. The host of RFC 7672, 3.2.2 is an alias here; its second certificate has the SHA-256 and not the SHA-512.
+ */
+static void sets_of_two_names(void)
+{
+    static const char sha256[35] = {2, 0, 1}, stale[67] = {2, 0, 2, 1};
+    static const struct {
+        const char *name;
+        uint64_t results[2], number, questions;
+        int sha256_first;
+    } sets[] = {
+        {"SHA-256 at the first name, SHA-512 at the second", {TWEEDSTORK_TLSA_SECURE, TWEEDSTORK_TLSA_SECURE}, TWEEDSTORK_DANE, 1, 1},
+        {"SHA-512 at the first name, SHA-256 at the second", {TWEEDSTORK_TLSA_SECURE, TWEEDSTORK_TLSA_SECURE}, TWEEDSTORK_DANE_MISMATCH, 1, 0},
+        {"insecure SHA-512, SHA-256 at the second name", {TWEEDSTORK_TLSA_INSECURE, TWEEDSTORK_TLSA_SECURE}, TWEEDSTORK_DANE, 2, 0},
+        {"absent SHA-512, SHA-256 at the second name", {TWEEDSTORK_TLSA_ABSENT, TWEEDSTORK_TLSA_SECURE}, TWEEDSTORK_DANE, 2, 0},
+        {"insecure SHA-256, SHA-512 at the second name", {TWEEDSTORK_TLSA_INSECURE, TWEEDSTORK_TLSA_SECURE}, TWEEDSTORK_DANE_MISMATCH, 2, 1},
+    };
+    for (size_t i = 0; i < sizeof sets / sizeof sets[0]; i++) {
+        struct tweedstork_host_facts facts = aliased("exchange.example.org");
+        uint8_t lengths[2][4];
+
+        facts.address = TWEEDSTORK_ALIAS_SECURE;
+        facts.tlsa_answers = 0;
+        for (int k = 0; k < 2; k++) {
+            int is_sha256 = sets[i].sha256_first == (k == 0);
+            learn_tlsa(&facts, sets[i].results[k], is_sha256 ? sha256 : stale, is_sha256 ? sizeof sha256 : sizeof stale, lengths[k]);
+        }
+        judged(sets[i].name, tweedstork_judge_facts(&facts), sets[i].number, sets[i].questions);
+    }
+}
+
+/* What a host needs doesn't change by it: certificates matter wherever a record is usable, ignored or not. */
+static void needs_of_digests(void)
+{
+    static const char records[35 + 67] = {3, 1, 1, [35] = 3, 1, 2};
+    static const uint32_t sizes[2] = {35, 67};
+    struct list lengths = list_of(sizes, 2, 0);
+    uint8_t length[4];
+    struct tweedstork_host_facts facts = known_with(TWEEDSTORK_NO_ALIAS_SECURE, NULL, TWEEDSTORK_TLSA_SECURE, records, sizeof records, length);
+
+    facts.tlsa[0].lengths.bytes = lengths.bytes;
+    facts.tlsa[0].lengths.length = lengths.length;
+    matters("SHA-256 that is ignored beside SHA-512", facts, 1);
+}
+
 static void certificates_matter(void)
 {
     static const char enforce[] = "version: STSv1\nmode: enforce\nmx: *.example.com\nmax_age: 604800\n";
@@ -631,6 +677,8 @@ int main(void)
     old_tls();
     refused_beside_old_tls();
     refused_versions();
+    sets_of_two_names();
+    needs_of_digests();
     certificates_matter();
     server_names();
     message_hosts();

@@ -60,6 +60,7 @@ scenario mx-failed '30'
 scenario connection-lost '8 10 8 10 11 2 2'
 scenario aliased-domain '8 14 10 11 12 26 8 14 10 11 12 3 3'
 scenario old-tls '8 14 10 11 28 8 14 10 11 12 3 3 8 10 11 2 2'
+scenario stale-digest '8 14 10 11 12 26 8 14 10 11 12 3 3'
 scenario second-name '8 10 11 12 4 4'
 scenario malformed-certificate '8 14 10 11 12 90 8 14 10 11 12 3 3'
 scenario cached-policy '72 6 7 15 8 10 11 12 4 4 15 6 8 10 11 12 4 4'
@@ -154,6 +155,36 @@ for count in 63 64; do
 done
 named '8 14 10 11 12 90' malformed-certificate "/^host 20/,\$d"
 expect 'relay: keeps the message and tries again later' relay "$files/names"
+# Document 02, No. 8: of usable records with one usage and selector SHA-256 is ignored beside SHA-512, and type 0 always counts.
+expect 'relay: sends the message to backup.example.com, over the TLS connection whose certificate passed' relay examples/scenarios/stale-digest.txt
+records() { # records NUMBERS SED-EDIT [SCENARIO]: of the records and digests
+    sed "$2" "examples/scenarios/${3-stale-digest}.txt" >"$files/records"
+    answers "$1" "$files/records"
+}
+records '8 14 10 11 12 26 8 14 10 11 12 3 3' '/record 3 1 1/{h;d}; /record 3 1 2/G' # in the other order
+records '8 14 10 11 12 26 8 14 10 11 12 3 3' '/record 3 1 1/d'
+records '8 14 10 11 12 26 8 14 10 11 12 26 31' 's/record 3 1 2 22/record 3 1 2 33/'
+expect 'relay: keeps the message and tries again later' relay "$files/records"
+records '8 14 10 11 12 3 3' '/record 3 1 2/d' # what SHA-256 alone names
+records '8 14 10 11 12 3 3' 's/record 3 1 2/record 3 0 2/' # another selector
+records '8 14 10 11 12 3 3' 's/record 3 1 2/record 2 1 2/' # another usage
+for unusable in '1 1 2 22*64' '3 2 2 22*64' '3 1 3 22*64' '3 1 2 22*63' '3 1 2 22*65' '3 1 2 22*32'; do
+    records '8 14 10 11 12 3 3' "s/record 3 1 2 .*/record $unusable/"
+done
+records '8 14 10 11 12 3 3' 's/record 3 1 1 .*/record 3 1 0 3000/' # the key info of each leaf here
+records '8 14 10 11 12 3 3' 's/record 3 1 1 .*/&\n    record 3 1 0 3000/'
+records '8 14 10 11 12 3 3' 's/record 3 1 2 .*/&\n    record 3 1 2 11*64/' # one SHA-512 record of several
+records '8 14 10 11 12 26 31' 's/record 2 1 1 .*/&\n    record 2 1 2 33*64/' both # a policy that passes is no help
+records '8 14 10 11 12 5 5' 's/record 2 1 1 .*/&\n    record 2 1 2 33*64/; s/certificate yes 22.*/& 33*64/' both
+records '8 14 10 11 12 5 5' 's/record 2 1 1 .*/&\n    record 3 1 2 33*64/' both
+at_host='\n    tlsa secure\n    record' # at the second name stands another set
+records '8 13 10 11 12 3 3' "s/record 3 .*/record 3 1 1 22*32$at_host 3 1 2 33*64/" wrong-key
+records '8 13 10 11 12 26 31' "s/record 3 .*/record 3 1 2 33*64$at_host 3 1 1 22*32/" wrong-key
+records '8 13 14 10 11 12 3 3' "s/expanded secure/expanded insecure/; s/record 3 .*/record 3 1 2 33*64$at_host 3 1 1 22*32/" wrong-key
+for words in 'yes 11*32 22*63' 'yes 11*32 22*65' 'yes 11*31 22*64' 'yes 11*32 22*64 33*64' 'yes 11*32 x'; do
+    sed "s/certificate .*/certificate $words/" examples/scenarios/cached-policy.txt >"$files/records"
+    expect "$files/records, line 21: not understood" relay "$files/records"
+done
 expect 'relay: sends the message to backup.example.com, over TLS, whoever the server is' relay examples/scenarios/connection-lost.txt
 printf 'clock 1\nnext-hop example.com\nmx insecure\nhost 10 mail.example.com\naddress insecure\nconnection lost\n' >"$files/lost"
 expect 'relay: keeps the message and tries again later' relay "$files/lost"

@@ -1,7 +1,7 @@
 /*
  * The call that judges a host by the leaf that it reads itself, as a C program meets it: the order of its refusals, where the leaf is
- * read, and that it answers as the plain call does on what stands in the leaf. Every slice ends where its memory ends. That it
- * answers so for every input is the proofs' matter.
+ * read, and that it answers as the plain call does on what stands in the leaf, with one TLSA record and with several. Every slice
+ * ends where its memory ends. That it answers so for every input is the proofs' matter.
  */
 #define _DEFAULT_SOURCE /* for memory() of expect.h */
 #include <inttypes.h>
@@ -165,6 +165,112 @@ static void judged_by_names(void)
     by_names("a common name of two bytes a letter", SUBJECT(CN("#1E:006D00610069006C")), NO_DANE, NO_STS);
     by_names("no name", SUBJECT(""), NO_DANE, NO_STS);
     by_names("a zero byte in the DNS-ID", NAMED("@82:6D61696C2E6578616D706C652E636F6D002E6F7267"), NO_DANE, NO_STS);
+}
+
+/*
+ * A TLSA set, written as text: of each record its kind, such as 311, and + where its data are those of what the server shows, - where
+ * they are another's, and < where these lack their last byte.
+ */
+#define MOST_RECORDS 4
+
+struct set {
+    uint8_t records[1000], lengths[4 * MOST_RECORDS];
+    size_t length, count;
+};
+
+/* The data of a record that matches. The digests are those of `shows`. */
+static size_t put_data(const struct shown *shown, const char *record, uint8_t *data)
+{
+    const struct place leaf = {0, shown->leaf->length}, second = {shown->leaf->length, 1};
+    int of_leaf = record[0] == '3', of_key = record[1] == '1';
+    struct place place = !of_leaf ? second : of_key ? shown->leaf->key : leaf;
+    size_t length = record[2] == '0' ? place.length : record[2] == '1' ? 32 : 64;
+
+    if (record[2] == '0')
+        memcpy(data, shown->certificates.bytes + place.start, length);
+    else
+        memset(data, of_leaf && of_key ? 1 : 0, length);
+    return length;
+}
+
+/* One more record. Data that match are another's once their last byte is changed. */
+static void add_record(struct set *set, const struct shown *shown, const char *record)
+{
+    uint8_t *rdata = set->records + set->length;
+    size_t length = 3 + put_data(shown, record, rdata + 3);
+
+    for (int i = 0; i < 3; i++)
+        rdata[i] = (uint8_t)(record[i] - '0');
+    rdata[length - 1] ^= record[3] == '+' ? 0 : 1;
+    length -= record[3] == '<' ? 1 : 0;
+    tweedstork_put_number(set->lengths, set->count++, (uint32_t)length);
+    set->length += length;
+}
+
+/* The set of this text, or the same in the other order. */
+static struct set set_of(const char *text, const struct shown *shown, int is_reversed)
+{
+    struct set set = {{0}, {0}, 0, 0};
+    size_t count = (strlen(text) + 1) / 5;
+
+    for (size_t i = 0; i < count; i++)
+        add_record(&set, shown, text + 5 * (is_reversed ? count - 1 - i : i));
+    return set;
+}
+
+static struct tweedstork_slice copied(const uint8_t *bytes, size_t length)
+{
+    struct tweedstork_slice slice = guarded(length);
+
+    memcpy((uint8_t *)slice.bytes, bytes, length);
+    return slice;
+}
+
+/* Asks both calls, in either order of the records, and sees that the set is as it was. */
+static void by_set(const char *text, const struct shown *shown, uint64_t wanted)
+{
+    for (int is_reversed = 0; is_reversed < 2; is_reversed++) {
+        struct set set = set_of(text, shown, is_reversed);
+        struct tweedstork_host_facts facts = met(shown, NULL, 0, NULL);
+
+        facts.tlsa[0].result = TWEEDSTORK_TLSA_SECURE;
+        facts.tlsa[0].records = copied(set.records, set.length);
+        facts.tlsa[0].lengths = copied(set.lengths, 4 * set.count);
+        judged(text, &facts, wanted);
+        plainly(text, shown, facts, wanted);
+        expect(text, memcmp(facts.tlsa[0].records.bytes, set.records, set.length) == 0);
+        expect(text, memcmp(facts.tlsa[0].lengths.bytes, set.lengths, 4 * set.count) == 0);
+    }
+}
+
+/* Document 02, No. 8: of usable records with one usage and selector SHA-256 is ignored beside SHA-512; type 0 always counts. */
+static void strongest_digests(void)
+{
+    enum { YES = TWEEDSTORK_DANE, NO = TWEEDSTORK_DANE_MISMATCH, TLS = TWEEDSTORK_ENCRYPTED };
+    static const struct {
+        const char *set;
+        uint64_t wanted;
+    } sets[] = {
+        {"311+ 312-", NO}, {"311- 312+", YES}, {"311+ 312+", YES}, {"311- 312-", NO}, {"311+", YES}, {"312+", YES},
+        {"301+ 302-", NO}, {"301- 302+", YES}, {"201+ 202-", NO}, {"201- 202+", YES}, {"211+ 212-", NO}, {"211- 212+", YES},
+        {"311+ 311+ 312-", NO}, {"311+ 312- 312-", NO}, {"311+ 312- 312+", YES}, /* several of one digest */
+        {"311+ 302-", YES}, {"301+ 312-", YES}, {"211+ 202-", YES}, {"201+ 212-", YES}, /* another selector */
+        {"311+ 212-", YES}, {"211+ 312-", YES}, {"301+ 202-", YES}, {"201+ 302-", YES}, /* another usage */
+        {"311+ 302- 212- 202-", YES}, {"311+ 302- 212- 312-", NO}, {"311+ 312- 201+ 202-", NO}, {"311+ 312- 201+ 212-", YES},
+        {"310+ 311- 312-", YES}, {"300+ 301- 302-", YES}, {"200+ 201- 202-", YES}, {"210+ 211- 212-", YES}, /* as it is */
+        {"310- 311+", YES}, {"310- 311+ 312-", NO}, {"310+ 312-", YES}, {"310- 312+", YES},
+        {"311+ 312<", YES}, {"311+ 312< 312-", NO}, {"311< 312+", YES}, {"311< 312-", NO}, /* unusable */
+        {"311+ 112-", YES}, {"311+ 012-", YES}, {"311+ 322-", YES}, {"311+ 313-", YES}, {"311< 312<", TLS}, {"111+ 112+", TLS},
+    };
+    struct shown shown = shows(NAMED("@82'" HOST "'")), before = shows(NAMED("@82'" HOST "'"));
+
+    for (size_t i = 0; i < sizeof sets / sizeof sets[0]; i++)
+        by_set(sets[i].set, &shown, sets[i].wanted);
+    expect("certificates as they were", memcmp(shown.certificates.bytes, before.certificates.bytes, before.certificates.length) == 0);
+    expect("lengths as they were", memcmp(shown.lengths.bytes, before.lengths.bytes, before.lengths.length) == 0);
+    expect("key places as they were", memcmp(shown.key_places.bytes, before.key_places.bytes, before.key_places.length) == 0);
+    expect("digests as they were", memcmp(shown.digests.bytes, before.digests.bytes, before.digests.length) == 0);
+    expect("paths as they were", memcmp(shown.paths.bytes, before.paths.bytes, before.paths.length) == 0);
 }
 
 /* Names of 255 bytes are taken, longer ones refused. */
@@ -345,6 +451,7 @@ static void odd_leaves(void)
 int main(void)
 {
     judged_by_names();
+    strongest_digests();
     long_names();
     order_of_refusals();
     lists();

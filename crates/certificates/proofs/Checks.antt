@@ -18,9 +18,11 @@ use Rattle.tlsa.specs.Record.{usageOf, counts}
 use Rattle.certificates.specs.Facts.{Certificate, certificatesOf, dnsIdsOf, commonNameOf, presentedOf}
 use Rattle.names.specs.Name.{someMatches}
 use Rattle.certificates.specs.Checks.{matchesCertificate, matchesOnPath, leafOf, afterLeaf, recordMatches, oneMatches, leafNames, namesReference, danePasses, showsHost}
-use Rattle.certificates.specs.Steps.{passes, matchOf}
+use Rattle.certificates.specs.Steps.{sha512Of, passes, matchOf}
 use Rattle.certificates.specs.declared.Match.{Match}
+use Rattle.certificates.specs.declared.Sha512Pairs.{Sha512Pairs}
 use Rattle.certificates.proofs.Limits.{certificates-count}
+use Rattle.certificates.proofs.Strongest.{one-passes}
 
 -- what passes without names passes with them, and what passes by any names passes where the leaf names a reference
 named-helps : (set : List (List ℕ)) (certs : List Certificate) (named : Bool) (r : List ℕ) → (counts set r && recordMatches false certs r) ≡ true → (counts set r && recordMatches named certs r) ≡ true
@@ -69,42 +71,42 @@ turn-nothing true a b p x y s h = let w = nothing-is a p h in rw (w .0, ← s re
 turn-nothing false a b p x y s h = rw (nothing-is a p h .0)
 
 -- `set_match`: m is what `record_match` gave of the record at hand
-module _ (certs : List Certificate) (s ns : List ℕ) (wanted : Bool) (at k n : ℕ) (inv : matchOf (any (passes false certs) (cut s ns)) (any (passes true certs) (cut s ns)) ≡ matchOf (any (passes false certs) (cut (drop at s) (drop k ns))) (not wanted || any (passes true certs) (cut (drop at s) (drop k ns)))) (counted : n ≡ length ns) where
-  pub set-none : n ≤ k → wanted ≡ true → Match.Nothing ≡ matchOf (any (passes false certs) (cut s ns)) (any (passes true certs) (cut s ns))
+module _ (found : Sha512Pairs) (certs : List Certificate) (s ns : List ℕ) (wanted : Bool) (at k n : ℕ) (inv : matchOf (any (passes found false certs) (cut s ns)) (any (passes found true certs) (cut s ns)) ≡ matchOf (any (passes found false certs) (cut (drop at s) (drop k ns))) (not wanted || any (passes found true certs) (cut (drop at s) (drop k ns)))) (counted : n ≡ length ns) where
+  pub set-none : n ≤ k → wanted ≡ true → Match.Nothing ≡ matchOf (any (passes found false certs) (cut s ns)) (any (passes found true certs) (cut s ns))
   unfolding any matchOf
   set-none h o = let g : length ns ≤ k = omega arith in sym (inv ∙ rw (cut-end s ns at k g, o))
 
-  pub set-left-named : n ≤ k → wanted ≡ false → Match.Named ≡ matchOf (any (passes false certs) (cut s ns)) (any (passes true certs) (cut s ns))
+  pub set-left-named : n ≤ k → wanted ≡ false → Match.Named ≡ matchOf (any (passes found false certs) (cut s ns)) (any (passes found true certs) (cut s ns))
   unfolding any matchOf
   set-left-named h o = let g : length ns ≤ k = omega arith in sym (inv ∙ rw (cut-end s ns at k g, o))
 
-  module _ (h : k < n) (w : at ≤ length s) (e : ℕ) (ends : e ≡ endOf (length s) at (getD ns k 0)) (m : Match) (gave : m ≡ matchOf (passes false certs (take (e - at) (drop at s))) (passes wanted certs (take (e - at) (drop at s)))) where
+  module _ (h : k < n) (w : at ≤ length s) (e : ℕ) (ends : e ≡ endOf (length s) at (getD ns k 0)) (m : Match) (gave : m ≡ matchOf (passes found false certs (take (e - at) (drop at s))) (passes found wanted certs (take (e - at) (drop at s)))) where
     here : cut (drop at s) (drop k ns) ≡ take (e - at) (drop at s) ∷ cut (drop e s) (drop (k + 1) ns)
     here = cut-next s ns at k e ends w (omega arith)
 
-    while-wanted : wanted ≡ true → passes wanted certs (take (e - at) (drop at s)) ≡ passes true certs (take (e - at) (drop at s))
+    while-wanted : wanted ≡ true → passes found wanted certs (take (e - at) (drop at s)) ≡ passes found true certs (take (e - at) (drop at s))
     while-wanted o = rw o
 
-    pub set-unnamed : m ≡ Match.Unnamed → Match.Unnamed ≡ matchOf (any (passes false certs) (cut s ns)) (any (passes true certs) (cut s ns))
+    pub set-unnamed : m ≡ Match.Unnamed → Match.Unnamed ≡ matchOf (any (passes found false certs) (cut s ns)) (any (passes found true certs) (cut s ns))
     unfolding any
     set-unnamed q =
-        turn-unnamed (passes false certs (take (e - at) (drop at s))) (passes wanted certs (take (e - at) (drop at s))) (any (passes false certs) (cut (drop e s) (drop (k + 1) ns)))
-        (not wanted || (passes true certs (take (e - at) (drop at s)) || any (passes true certs) (cut (drop e s) (drop (k + 1) ns)))) (sym gave ∙ q)
+        turn-unnamed (passes found false certs (take (e - at) (drop at s))) (passes found wanted certs (take (e - at) (drop at s))) (any (passes found false certs) (cut (drop e s) (drop (k + 1) ns)))
+        (not wanted || (passes found true certs (take (e - at) (drop at s)) || any (passes found true certs) (cut (drop e s) (drop (k + 1) ns)))) (sym gave ∙ q)
         ∙ sym (rw here at inv)
 
-    pub set-named : m ≡ Match.Named → matchOf (any (passes false certs) (cut s ns)) (any (passes true certs) (cut s ns)) ≡ matchOf (any (passes false certs) (cut (drop e s) (drop (k + 1) ns))) true
+    pub set-named : m ≡ Match.Named → matchOf (any (passes found false certs) (cut s ns)) (any (passes found true certs) (cut s ns)) ≡ matchOf (any (passes found false certs) (cut (drop e s) (drop (k + 1) ns))) true
     unfolding any
     set-named q =
         (rw here at inv)
-        ∙ turn-named wanted (passes false certs (take (e - at) (drop at s))) (passes true certs (take (e - at) (drop at s))) (passes wanted certs (take (e - at) (drop at s)))
-        (any (passes false certs) (cut (drop e s) (drop (k + 1) ns))) (any (passes true certs) (cut (drop e s) (drop (k + 1) ns))) while-wanted (sym gave ∙ q)
+        ∙ turn-named wanted (passes found false certs (take (e - at) (drop at s))) (passes found true certs (take (e - at) (drop at s))) (passes found wanted certs (take (e - at) (drop at s)))
+        (any (passes found false certs) (cut (drop e s) (drop (k + 1) ns))) (any (passes found true certs) (cut (drop e s) (drop (k + 1) ns))) while-wanted (sym gave ∙ q)
 
-    pub set-nothing : m ≡ Match.Nothing → matchOf (any (passes false certs) (cut s ns)) (any (passes true certs) (cut s ns)) ≡ matchOf (any (passes false certs) (cut (drop e s) (drop (k + 1) ns))) (not wanted || any (passes true certs) (cut (drop e s) (drop (k + 1) ns)))
+    pub set-nothing : m ≡ Match.Nothing → matchOf (any (passes found false certs) (cut s ns)) (any (passes found true certs) (cut s ns)) ≡ matchOf (any (passes found false certs) (cut (drop e s) (drop (k + 1) ns))) (not wanted || any (passes found true certs) (cut (drop e s) (drop (k + 1) ns)))
     unfolding any
     set-nothing q =
         (rw here at inv)
-        ∙ turn-nothing wanted (passes false certs (take (e - at) (drop at s))) (passes true certs (take (e - at) (drop at s))) (passes wanted certs (take (e - at) (drop at s)))
-        (any (passes false certs) (cut (drop e s) (drop (k + 1) ns))) (any (passes true certs) (cut (drop e s) (drop (k + 1) ns))) while-wanted (sym gave ∙ q)
+        ∙ turn-nothing wanted (passes found false certs (take (e - at) (drop at s))) (passes found true certs (take (e - at) (drop at s))) (passes found wanted certs (take (e - at) (drop at s)))
+        (any (passes found false certs) (cut (drop e s) (drop (k + 1) ns))) (any (passes found true certs) (cut (drop e s) (drop (k + 1) ns))) while-wanted (sym gave ∙ q)
 
 pub ruleset set-laws = (set-none, set-left-named, set-unnamed, set-named, set-nothing, end-after, end-within, needs)
 
@@ -118,14 +120,13 @@ module _ (set : List (List ℕ)) (certs : List Certificate) where
   unmatched true x y = y
   unmatched false x y = x
 
-module _ (refs set : List (List ℕ)) (C L P D Q : List ℕ) (root : Bool) (I X : List ℕ) (given : Bool) (N : List ℕ) (m : Match) (me : m ≡ matchOf (any (passes false (certificatesOf C L P D Q)) set) (any (passes true (certificatesOf C L P D Q)) set)) where
+module _ (refs set : List (List ℕ)) (C L P D Q : List ℕ) (root : Bool) (I X : List ℕ) (given : Bool) (N : List ℕ) (found : Sha512Pairs) (fe : found ≡ sha512Of set) (m : Match) (me : m ≡ matchOf (any (passes found false (certificatesOf C L P D Q)) set) (any (passes found true (certificatesOf C L P D Q)) set)) where
   says : danePasses refs set (presentedOf C L P D Q root I X given N) ≡ oneMatches (any (someMatches (leafNames (dnsIdsOf I X) (commonNameOf given N))) refs) set (certificatesOf C L P D Q)
   unfolding danePasses namesReference presentedOf
   says = refl
 
   by-one : m ≡ matchOf (oneMatches false set (certificatesOf C L P D Q)) (oneMatches true set (certificatesOf C L P D Q))
-  unfolding passes
-  by-one = me
+  by-one = me ∙ rw (fe, one-passes set false (certificatesOf C L P D Q), one-passes set true (certificatesOf C L P D Q))
 
   pub dane-unnamed : m ≡ Match.Unnamed → true ≡ danePasses refs set (presentedOf C L P D Q root I X given N)
   dane-unnamed q =

@@ -7,7 +7,7 @@ use mathlib.Core.List.{List, [], _∷_}
 use mathlib.Core.Logic.{_⊎_, inl, inr}
 use native.Mathlib.Omega.{arith}
 use lib.Dec.{eqb}
-use lib.ListN.{length, getD, take, drop}
+use lib.ListN.{length, getD, take, drop, length-drop}
 use borrow.Author.Needs.{needs}
 use borrow.Author.Tests.{not-true, not-false, eqb-true, ne-eqb, ltb-false}
 use Rattle.lists.specs.Bytes.{any}
@@ -21,8 +21,9 @@ use Rattle.numbers.proofs.Loop.{placed-next, placed-end, seek-next, seek-hit, s
 use Rattle.tlsa.specs.Record.{usageOf, selectorOf, matchingTypeOf, dataOf, short, isUsage, isSelector, dataFits, usable}
 use Rattle.certificates.specs.Facts.{Certificate, digestAt, certificateAt, certificatesOf}
 use Rattle.certificates.specs.Checks.{byType, compared, matchesCertificate, matchesOnPath, leafOf, afterLeaf, recordMatches}
-use Rattle.certificates.specs.Steps.{digestStart, digestOnPath, anyPlace, passes, matchOf}
+use Rattle.certificates.specs.Steps.{digestStart, digestOnPath, anyPlace, ignoredBeside, passes, matchOf}
 use Rattle.certificates.specs.declared.Match.{Match}
+use Rattle.certificates.specs.declared.Sha512Pairs.{Sha512Pairs}
 use Rattle.certificates.proofs.Matching.{any-digests, on-path-digests}
 
 -- what a usable record has: three bytes, usage 2 or 3, and data that fit the matching type
@@ -49,6 +50,16 @@ module _ (r : List ℕ) (h : usable r ≡ true) where
       go true e k = eqb-true (usageOf r) 2 e
       go false e k = apart (sym (ne-eqb (usageOf r) 3 other) ∙ k)
 
+  pub usable-usage-3 : (usageOf r ≡ 2 → ⊥) → usageOf r ≡ 3
+  unfolding isUsage
+  usable-usage-3 other = eqb-true (usageOf r) 3 (rw (ne-eqb (usageOf r) 2 other) at (and-right (not (short r)) (isUsage (usageOf r)) parts))
+
+  pub usable-selector-1 : (selectorOf r ≡ 0 → ⊥) → selectorOf r ≡ 1
+  unfolding usable isSelector
+  usable-selector-1 other =
+      eqb-true (selectorOf r) 1
+      (rw (ne-eqb (selectorOf r) 0 other) at (and-right (not (short r) && isUsage (usageOf r)) (isSelector (selectorOf r)) (and-left (not (short r) && isUsage (usageOf r) && isSelector (selectorOf r)) (dataFits (matchingTypeOf r) (length (dataOf r))) h)))
+
   data-fit : dataFits (matchingTypeOf r) (length (dataOf r)) ≡ true
   unfolding usable
   data-fit = and-right (not (short r) && isUsage (usageOf r) && isSelector (selectorOf r)) (dataFits (matchingTypeOf r) (length (dataOf r))) h
@@ -63,6 +74,14 @@ digest-sizes t n z h = go (eqb t 1) refl (eqb t 2) refl (rw (ne-eqb t 0 z) at h)
     go true p false q k = inl (eqb-true t 1 p, eqb-true n 32 (sym (or-false (eqb n 32)) ∙ k))
     go false p true q k = inr (eqb-true t 2 q, eqb-true n 64 k)
     go false p false q k = apart k
+
+-- a usable record of matching type 2 has 67 bytes
+pub sha512-length : (r : List ℕ) → usable r ≡ true → matchingTypeOf r ≡ 2 → length r ≡ 67
+sha512-length r h t = go (digest-sizes (matchingTypeOf r) (length (dataOf r)) (λ z. omega arith) (data-fit r h))
+  where
+    go : ((matchingTypeOf r ≡ 1) × (length (dataOf r) ≡ 32)) ⊎ ((matchingTypeOf r ≡ 2) × (length (dataOf r) ≡ 64)) → length r ≡ 67
+    go (inl w) = absurd (omega arith)
+    go (inr w) = omega (arith, length-drop 3 r, usable-3-bytes r h)
 
 -- a usable record of matching type 1 or 2 is compared with a digest
 module _ (r : List ℕ) (h : usable r ≡ true) (z : matchingTypeOf r ≡ 0 → ⊥) where
@@ -194,7 +213,7 @@ pub matches-2 : (named : Bool) (certs : List Certificate) (r : List ℕ) → usa
 unfolding recordMatches
 matches-2 named certs r h = rw h
 
--- `record_match`: u is what `is_usable` gave, r what the last call gave
+-- `record_match`: u and i are what `is_usable` and `is_ignored` gave, r what the last call gave
 module _ (entry : List ℕ) (u : Bool) (ue : u ≡ usable entry) where
   pub pass-usable : u ≡ true → usable entry ≡ true
   pass-usable t = sym ue ∙ t
@@ -202,36 +221,40 @@ module _ (entry : List ℕ) (u : Bool) (ue : u ≡ usable entry) where
   pub pass-first : u ≡ true → 0 < length entry
   pass-first t = omega (arith, usable-3-bytes entry (pass-usable t))
 
-  module _ (wanted : Bool) (certs : List Certificate) where
-    pub match-unusable : u ≡ false → Match.Nothing ≡ matchOf (passes false certs entry) (passes wanted certs entry)
+  module _ (found : Sha512Pairs) (wanted : Bool) (certs : List Certificate) where
+    pub match-unusable : u ≡ false → Match.Nothing ≡ matchOf (passes found false certs entry) (passes found wanted certs entry)
     unfolding passes matchOf
     match-unusable f = rw (← ue, f)
 
-    module _ (t : u ≡ true) where
-      module _ (h : getD entry 0 0 ≡ 3) (r : Bool) (e : r ≡ any (matchesCertificate entry) (leafOf certs)) where
-        pub match-leaf : r ≡ true → Match.Unnamed ≡ matchOf (passes false certs entry) (passes wanted certs entry)
-        unfolding passes matchOf
-        match-leaf y = rw (pass-usable t, matches-3 false certs entry h, ← e, y)
+    pub match-ignored : u ≡ true → (i : Bool) → i ≡ ignoredBeside found entry → i ≡ true → Match.Nothing ≡ matchOf (passes found false certs entry) (passes found wanted certs entry)
+    unfolding passes matchOf
+    match-ignored t i ie y = rw (pass-usable t, ← ie, y)
 
-        pub match-no-leaf : r ≡ false → Match.Nothing ≡ matchOf (passes false certs entry) (passes wanted certs entry)
+    module _ (t : u ≡ true) (i : Bool) (ie : i ≡ ignoredBeside found entry) (kept : i ≡ false) where
+      module _ (h : getD entry 0 0 ≡ 3) (r : Bool) (e : r ≡ any (matchesCertificate entry) (leafOf certs)) where
+        pub match-leaf : r ≡ true → Match.Unnamed ≡ matchOf (passes found false certs entry) (passes found wanted certs entry)
         unfolding passes matchOf
-        match-no-leaf f = rw (pass-usable t, matches-3 false certs entry h, matches-3 wanted certs entry h, ← e, f)
+        match-leaf y = rw (pass-usable t, ← ie, kept, matches-3 false certs entry h, ← e, y)
+
+        pub match-no-leaf : r ≡ false → Match.Nothing ≡ matchOf (passes found false certs entry) (passes found wanted certs entry)
+        unfolding passes matchOf
+        match-no-leaf f = rw (pass-usable t, ← ie, kept, matches-3 false certs entry h, matches-3 wanted certs entry h, ← e, f)
 
       module _ (h : getD entry 0 0 ≡ 3 → ⊥) where
         usage-2 : (named : Bool) → recordMatches named certs entry ≡ (named && any (matchesOnPath entry) (afterLeaf certs))
         usage-2 named = matches-2 named certs entry (usable-usage-2 entry (pass-usable t) h)
 
-        pub match-shut : wanted ≡ false → Match.Nothing ≡ matchOf (passes false certs entry) (passes wanted certs entry)
+        pub match-shut : wanted ≡ false → Match.Nothing ≡ matchOf (passes found false certs entry) (passes found wanted certs entry)
         unfolding passes matchOf
-        match-shut o = rw (pass-usable t, usage-2 false, usage-2 wanted, o)
+        match-shut o = rw (pass-usable t, ← ie, kept, usage-2 false, usage-2 wanted, o)
 
         module _ (o : wanted ≡ true) (r : Bool) (e : r ≡ any (matchesOnPath entry) (afterLeaf certs)) where
-          pub match-after : r ≡ true → Match.Named ≡ matchOf (passes false certs entry) (passes wanted certs entry)
+          pub match-after : r ≡ true → Match.Named ≡ matchOf (passes found false certs entry) (passes found wanted certs entry)
           unfolding passes matchOf
-          match-after y = rw (pass-usable t, usage-2 false, usage-2 wanted, o, ← e, y)
+          match-after y = rw (pass-usable t, ← ie, kept, usage-2 false, usage-2 wanted, o, ← e, y)
 
-          pub match-no-after : r ≡ false → Match.Nothing ≡ matchOf (passes false certs entry) (passes wanted certs entry)
+          pub match-no-after : r ≡ false → Match.Nothing ≡ matchOf (passes found false certs entry) (passes found wanted certs entry)
           unfolding passes matchOf
-          match-no-after f = rw (pass-usable t, usage-2 false, usage-2 wanted, o, ← e, f)
+          match-no-after f = rw (pass-usable t, ← ie, kept, usage-2 false, usage-2 wanted, o, ← e, f)
 
-pub ruleset match-laws = (match-unusable, match-leaf, match-no-leaf, match-shut, match-after, match-no-after, pass-first, pass-usable, not-true, not-false, needs)
+pub ruleset match-laws = (match-unusable, match-ignored, match-leaf, match-no-leaf, match-shut, match-after, match-no-after, pass-first, pass-usable, not-true, not-false, needs)

@@ -1,7 +1,7 @@
 -- What cannot authenticate, and what does not matter: laws of the two checks for every set, every reference and all certificate facts. Assumes nothing.
 use Prim.Native.Nat.{ℕ}
 use mathlib.Core.Path.{_≡_, refl, sym, ap, _∙_}
-use mathlib.Core.Bool.{Bool, true, false, _&&_, and-false}
+use mathlib.Core.Bool.{Bool, true, false, not, _&&_, and-false}
 use mathlib.Core.List.{List, [], _∷_, _++_}
 use mathlib.Core.Logic.{_⊎_, inl, inr}
 use lib.Dec.{eqb}
@@ -9,6 +9,7 @@ use borrow.Author.Tests.{eqb-true}
 use Rattle.lists.specs.Bytes.{all, any}
 use Rattle.lists.proofs.Any.{any-none, any-fails, any-agree, any-swap}
 use Rattle.tlsa.specs.Record.{usageOf, usable, counts}
+use Rattle.tlsa.proofs.Ignored.{order}
 use Rattle.certificates.specs.Facts.{Certificate, Presented}
 use Rattle.certificates.specs.Checks.{matchesCertificate, matchesOnPath, leafOf, afterLeaf, recordMatches, leafNames, namesReference, danePasses, showsHost}
 use Rattle.certificates.proofs.Passing.{matches-3, matches-2}
@@ -72,7 +73,9 @@ module _ (refs set : List (List ℕ)) (p : Presented) (h : allOfUsage 2 set ≡ 
 -- The order of a set's records does not matter: any two that stand side by side may be exchanged.
 pub set-order : (refs xs : List (List ℕ)) (r s : List ℕ) (ys : List (List ℕ)) (p : Presented) → danePasses refs (xs ++ (r ∷ s ∷ ys)) p ≡ danePasses refs (xs ++ (s ∷ r ∷ ys)) p
 unfolding danePasses
-set-order refs xs r s ys p = any-swap (passing refs xs p) xs r s ys
+set-order refs xs r s ys p =
+    (λ i. any (λ (x : List ℕ). usable x && not (order xs r s ys x i) && recordMatches (namesReference refs p) (p .certificates) x) (xs ++ (r ∷ s ∷ ys)))
+    ∙ any-swap (passing refs (xs ++ (s ∷ r ∷ ys)) p) xs r s ys
 
 -- The common name counts only where there is no DNS-ID, and never for MTA-STS.
 pub common-name-shut-out : (refs : List (List ℕ)) (id : List ℕ) (ids : List (List ℕ)) (p q : Presented) → p .dnsIds ≡ id ∷ ids → q .dnsIds ≡ id ∷ ids → namesReference refs p ≡ namesReference refs q

@@ -13,7 +13,7 @@ use Rattle.lists.specs.Text.{text}
 use Rattle.names.specs.Name.{labelByte, isLabel, isName, isStarred, isWildcard, matchesName}
 use Rattle.numbers.specs.Numbers.{numbers, isWhole, sum, written}
 use Rattle.numbers.specs.Pieces.{cut, numbered, sumsTo, upTo}
-use Rattle.tlsa.specs.Record.{short, isUsage, isSelector, dataFits, usable}
+use Rattle.tlsa.specs.Record.{short, isUsage, isSelector, dataFits, usable, isSha512, ignored}
 use Rattle.certificates.specs.Facts.{Presented, certificateAt, certificatesOf, presentedOf}
 use Rattle.certificates.specs.Limits.{certificateFits, totalOf, chainKeepsLimits, commonNameFits, namesKeepLimits, oneForEach, chainFits, namesFit, factsFit, yesNo}
 use Rattle.certificates.specs.Checks.{byType, compared, matchesCertificate, matchesOnPath, recordMatches, furtherReference, references, leafNames, namesReference, danePasses, showsHost}
@@ -65,7 +65,7 @@ usage-3 :
     ∷ (3 ∷ 0 ∷ 0 ∷ 1 ∷ 2 ∷ []) ∷ (3 ∷ 1 ∷ 1 ∷ replicate 32 11) ∷ (3 ∷ 0 ∷ 0 ∷ 4 ∷ 5 ∷ 6 ∷ 7 ∷ [])
     ∷ [])
     ≡ true ∷ true ∷ true ∷ true ∷ true ∷ true ∷ false ∷ false ∷ false ∷ []
-unfolding danePasses namesReference references leafNames any usable short isUsage isSelector dataFits recordMatches matchesCertificate matchesOnPath compared byType agree sameByte presentedOf certificatesOf certificateAt numbered cut numbers written
+unfolding danePasses namesReference references leafNames any ignored isSha512 usable short isUsage isSelector dataFits recordMatches matchesCertificate matchesOnPath compared byType agree sameByte presentedOf certificatesOf certificateAt numbered cut numbers written
 usage-3 = refl
 
 -- Usage 2, each selector and matching type, against the second certificate.
@@ -75,7 +75,7 @@ usage-2 :
     ∷ (2 ∷ 1 ∷ 0 ∷ 4 ∷ []) ∷ (2 ∷ 1 ∷ 1 ∷ replicate 32 23) ∷ (2 ∷ 1 ∷ 2 ∷ replicate 64 24)
     ∷ [])
     ≡ replicate 6 true
-unfolding danePasses namesReference references leafNames any usable short isUsage isSelector dataFits recordMatches matchesCertificate matchesOnPath compared byType agree sameByte sameLetter lowerOf presentedOf certificatesOf certificateAt numbered cut numbers written matchesName isName isStarred isWildcard isLabel labelByte all split toFirst indexOf
+unfolding danePasses namesReference references leafNames any ignored isSha512 usable short isUsage isSelector dataFits recordMatches matchesCertificate matchesOnPath compared byType agree sameByte sameLetter lowerOf presentedOf certificatesOf certificateAt numbered cut numbers written matchesName isName isStarred isWildcard isLabel labelByte all split toFirst indexOf
 usage-2 = refl
 
 -- Usage 2 does not pass where the path flag is no, the leaf names no reference or nothing, the record is the leaf's, or there is the leaf alone.
@@ -87,7 +87,7 @@ usage-2-not :
     ∷ danePasses mx (one (2 ∷ 0 ∷ 0 ∷ 1 ∷ 2 ∷ 3 ∷ [])) alone
     ∷ []
     ≡ replicate 5 false
-unfolding danePasses namesReference references leafNames any usable short isUsage isSelector dataFits recordMatches matchesCertificate matchesOnPath compared byType agree sameByte sameLetter lowerOf presentedOf certificatesOf certificateAt numbered cut numbers written matchesName isName isStarred isWildcard isLabel labelByte all split toFirst indexOf
+unfolding danePasses namesReference references leafNames any ignored isSha512 usable short isUsage isSelector dataFits recordMatches matchesCertificate matchesOnPath compared byType agree sameByte sameLetter lowerOf presentedOf certificatesOf certificateAt numbered cut numbers written matchesName isName isStarred isWildcard isLabel labelByte all split toFirst indexOf
 usage-2-not = refl
 
 -- No record, usage 1, a digest of the wrong length, and a record under 3 bytes beside a certificate without bytes authenticate nobody; one record that matches does.
@@ -99,8 +99,49 @@ sets :
     ∷ danePasses mx ((1 ∷ 0 ∷ 0 ∷ 1 ∷ []) ∷ (3 ∷ 0 ∷ 0 ∷ 9 ∷ []) ∷ (3 ∷ 1 ∷ 0 ∷ 2 ∷ 3 ∷ []) ∷ []) (nameless no)
     ∷ []
     ≡ false ∷ false ∷ false ∷ false ∷ true ∷ []
-unfolding danePasses namesReference references leafNames any usable short isUsage isSelector dataFits recordMatches matchesCertificate matchesOnPath compared byType agree sameByte sameLetter lowerOf presentedOf certificatesOf certificateAt numbered cut numbers written matchesName isName isStarred isWildcard isLabel labelByte all split toFirst indexOf
+unfolding danePasses namesReference references leafNames any ignored isSha512 usable short isUsage isSelector dataFits recordMatches matchesCertificate matchesOnPath compared byType agree sameByte sameLetter lowerOf presentedOf certificatesOf certificateAt numbered cut numbers written matchesName isName isStarred isWildcard isLabel labelByte all split toFirst indexOf
 sets = refl
+
+-- Strongest digest only. Keys were rotated, and of a SHA-256 and a SHA-512 record one has what is presented, in either order, for the key and for the certificate.
+strongest :
+    map (λ (set : List (List ℕ)). danePasses mx set (nameless no))
+    (((3 ∷ 1 ∷ 1 ∷ replicate 32 13) ∷ (3 ∷ 1 ∷ 2 ∷ replicate 64 9) ∷ [])
+    ∷ ((3 ∷ 1 ∷ 2 ∷ replicate 64 9) ∷ (3 ∷ 1 ∷ 1 ∷ replicate 32 13) ∷ [])
+    ∷ ((3 ∷ 0 ∷ 1 ∷ replicate 32 11) ∷ (3 ∷ 0 ∷ 2 ∷ replicate 64 9) ∷ [])
+    ∷ ((3 ∷ 1 ∷ 1 ∷ replicate 32 9) ∷ (3 ∷ 1 ∷ 2 ∷ replicate 64 14) ∷ [])
+    ∷ ((3 ∷ 1 ∷ 2 ∷ replicate 64 14) ∷ (3 ∷ 1 ∷ 1 ∷ replicate 32 9) ∷ [])
+    ∷ ((3 ∷ 0 ∷ 1 ∷ replicate 32 9) ∷ (3 ∷ 0 ∷ 2 ∷ replicate 64 12) ∷ [])
+    ∷ [])
+    ≡ false ∷ false ∷ false ∷ true ∷ true ∷ true ∷ []
+unfolding danePasses namesReference references leafNames any ignored isSha512 usable short isUsage isSelector dataFits recordMatches matchesCertificate matchesOnPath compared byType agree sameByte presentedOf certificatesOf certificateAt numbered cut numbers written
+strongest = refl
+
+-- Type 0 beside the digests: it matches alone; it doesn't match, and beside it SHA-256 does, with a SHA-512 record and without; and SHA-512 does. Then SHA-256 that matches beside SHA-512 of
+-- 63 bytes, of the other selector and of the other usage.
+strongest-beside :
+    map (λ (set : List (List ℕ)). danePasses mx set (nameless no))
+    (((3 ∷ 1 ∷ 0 ∷ 2 ∷ 3 ∷ []) ∷ (3 ∷ 1 ∷ 1 ∷ replicate 32 9) ∷ (3 ∷ 1 ∷ 2 ∷ replicate 64 9) ∷ [])
+    ∷ ((3 ∷ 1 ∷ 0 ∷ 9 ∷ []) ∷ (3 ∷ 1 ∷ 1 ∷ replicate 32 13) ∷ (3 ∷ 1 ∷ 2 ∷ replicate 64 9) ∷ [])
+    ∷ ((3 ∷ 1 ∷ 0 ∷ 9 ∷ []) ∷ (3 ∷ 1 ∷ 1 ∷ replicate 32 13) ∷ [])
+    ∷ ((3 ∷ 1 ∷ 0 ∷ 9 ∷ []) ∷ (3 ∷ 1 ∷ 2 ∷ replicate 64 14) ∷ [])
+    ∷ ((3 ∷ 1 ∷ 1 ∷ replicate 32 13) ∷ (3 ∷ 1 ∷ 2 ∷ replicate 63 9) ∷ [])
+    ∷ ((3 ∷ 1 ∷ 1 ∷ replicate 32 13) ∷ (3 ∷ 0 ∷ 2 ∷ replicate 64 9) ∷ [])
+    ∷ ((3 ∷ 1 ∷ 1 ∷ replicate 32 13) ∷ (2 ∷ 1 ∷ 2 ∷ replicate 64 9) ∷ [])
+    ∷ [])
+    ≡ true ∷ false ∷ true ∷ true ∷ true ∷ true ∷ true ∷ []
+unfolding danePasses namesReference references leafNames any ignored isSha512 usable short isUsage isSelector dataFits recordMatches matchesCertificate matchesOnPath compared byType agree sameByte presentedOf certificatesOf certificateAt numbered cut numbers written
+strongest-beside = refl
+
+-- The same of usage 2: SHA-256 that matches, of the key and of the certificate, beside SHA-512 of its own pair, and beside SHA-512 of both others.
+strongest-of-usage-2 :
+    map (λ (set : List (List ℕ)). danePasses mx set (named yes))
+    (((2 ∷ 1 ∷ 1 ∷ replicate 32 23) ∷ (2 ∷ 1 ∷ 2 ∷ replicate 64 9) ∷ [])
+    ∷ ((2 ∷ 0 ∷ 1 ∷ replicate 32 21) ∷ (2 ∷ 0 ∷ 2 ∷ replicate 64 9) ∷ [])
+    ∷ ((2 ∷ 1 ∷ 1 ∷ replicate 32 23) ∷ (2 ∷ 0 ∷ 2 ∷ replicate 64 9) ∷ (3 ∷ 1 ∷ 2 ∷ replicate 64 9) ∷ [])
+    ∷ [])
+    ≡ false ∷ false ∷ true ∷ []
+unfolding danePasses namesReference references leafNames any ignored isSha512 usable short isUsage isSelector dataFits recordMatches matchesCertificate matchesOnPath compared byType agree sameByte sameLetter lowerOf presentedOf certificatesOf certificateAt numbered cut numbers written matchesName isName isStarred isWildcard isLabel labelByte all split toFirst indexOf
+strongest-of-usage-2 = refl
 
 -- The leaf's names against the references: the next-hop is one with secure MX and with no MX. The common name counts where there is no DNS-ID, not beside one, not even beside an empty one.
 abbrev names : List ℕ → List ℕ → Presented

@@ -66,11 +66,11 @@ leafNames (id ∷ ids) commonName = id ∷ ids
 unfoldable pub namesReference : List (List ℕ) → Presented → Bool
 namesReference refs p = any (someMatches (leafNames (p .dnsIds) (p .commonName))) refs
 
--- One record of a set that counts matches.
+-- One record of a set matches that counts: a usable record that is not ignored.
 abbrev pub oneMatches : (named : Bool) → List (List ℕ) → List Certificate → Bool
 oneMatches named set certs = any (λ (r : List ℕ). counts set r && recordMatches named certs r) set
 
--- DANE passes when one record of the set that counts matches.
+-- DANE passes when one usable record of the set that is not ignored matches.
 unfoldable pub danePasses : (refs set : List (List ℕ)) → Presented → Bool
 danePasses refs set p = oneMatches (namesReference refs p) set (p .certificates)
 

@@ -1,6 +1,6 @@
 // Certificate facts: their limits, and what DANE and MTA-STS ask of them (RFC 7672, RFC 8461).
 ghost use mathlib.Core.Path.{_≡_};
-ghost use mathlib.Core.Bool.{true, false};
+ghost use mathlib.Core.Bool.{true, false, _&&_};
 ghost use mathlib.Core.List.{[], _∷_};
 ghost use Prim.Native.Nat.{_+_, _*_, _-_, _<_, _≤_};
 ghost use lib.Dec.{eqb, leb};
@@ -13,7 +13,7 @@ ghost use Rattle.tlsa.specs.Record.{matchingTypeOf, usable};
 ghost use Rattle.tlsa.specs.Answer.{recordsOf};
 ghost use Rattle.certificates.specs.Facts.{digestAt, certificateAt, certificatesOf, dnsIdsOf, when, commonNameOf, presentedOf};
 ghost use Rattle.certificates.specs.Limits.{oneForEach, chainFits, namesFit, factsFit, yesNo};
-ghost use Rattle.certificates.specs.Steps.{digestStart, digestOnPath, anyPlace, passes, matchOf, placesFit};
+ghost use Rattle.certificates.specs.Steps.{digestStart, digestOnPath, anyPlace, sha512Of, withRecord, ignoredBeside, passes, matchOf, placesFit};
 ghost use Rattle.certificates.specs.Checks.{compared, matchesCertificate, matchesOnPath, leafOf, afterLeaf, furtherReference, references, leafNames, danePasses, showsHost};
 
 // The origin of the host list: secure MX, insecure MX, or no MX, where the host is the next-hop itself.
@@ -28,6 +28,14 @@ enum Match {
     Unnamed,
     Named,
     Nothing,
+}
+
+// Pairs of a usage, DANE-TA (2) or DANE-EE (3), and a selector, certificate (0) or key info (1): whether a set has a usable SHA-512 record of each.
+struct Sha512Pairs {
+    ta_certificate: bool,
+    ta_key: bool,
+    ee_certificate: bool,
+    ee_key: bool,
 }
 
 // Where the digest starts that a record of this selector and matching type, 1 or 2, is compared with, among the 192 bytes of digests of a certificate.
@@ -233,9 +241,91 @@ fn matches_after_leaf(
     is_digest_after_leaf(&entry[3..], from, n, digests, paths)
 }
 
-// How the record matches: usage 3 without names, usage 2 with them, and only while `wanted`; a record that is not usable does not.
+// Whether the record is usable and has matching type 2, SHA-512. Such a record has 67 bytes: three, and a digest of 64.
+fn is_sha512(entry: &[u8]) -> bool
+    ensures { λ r. ⌜ r ≡ (usable (now (entry .entry)) && eqb (matchingTypeOf (now (entry .entry))) 2) ⌝ }
+{
+    if entry.len() != 67 {
+        return false;
+    }
+    let usable = tlsa::is_usable(entry);
+    if !usable {
+        return false; // no record is ignored because of it
+    }
+    entry[2] == 2
+}
+
+// The pairs with one record more.
+fn with_record(found: Sha512Pairs, entry: &[u8]) -> Sha512Pairs
+    ensures { λ r. ⌜ r ≡ withRecord found (now (entry .entry)) ⌝ }
+{
+    let sha512 = is_sha512(entry);
+    if !sha512 {
+        return found;
+    }
+    let mut more = found;
+    if entry[0] == 2 {
+        if entry[1] == 0 {
+            more.ta_certificate = true;
+            return more;
+        }
+        more.ta_key = true;
+        return more;
+    }
+    if entry[1] == 0 {
+        more.ee_certificate = true;
+        return more;
+    }
+    more.ee_key = true;
+    more
+}
+
+// The pairs of which a set has a usable SHA-512 record. It is gone through once.
+fn sha512_of(sizes: &[u8], records: &[u8]) -> Sha512Pairs
+    ensures { λ r. ⌜ r ≡ sha512Of (recordsOf (now (sizes .entry)) (now (records .entry))) ⌝ }
+{
+    let n = numbers::count(sizes);
+    let mut found = Sha512Pairs {
+        ta_certificate: false,
+        ta_key: false,
+        ee_certificate: false,
+        ee_key: false,
+    };
+    let mut at = 0;
+    let mut k = 0;
+    while k < n {
+        let e = numbers::end_at(sizes, k, at, records.len());
+        found = with_record(found, &records[at..e]);
+        at = e;
+        k += 1;
+    }
+    found
+}
+
+// Whether the record, a usable one, is ignored, by the pairs of its set: it is SHA-256, and there is SHA-512 of its usage and selector.
+fn is_ignored(entry: &[u8], found: Sha512Pairs) -> bool
+    requires { ⌜ usable (now entry) ≡ true ⌝ }
+    ensures { λ r. ⌜ r ≡ ignoredBeside found (now (entry .entry)) ⌝ }
+{
+    if entry[2] != 1 {
+        return false;
+    }
+    if entry[0] == 2 {
+        if entry[1] == 0 {
+            return found.ta_certificate;
+        }
+        return found.ta_key;
+    }
+    if entry[1] == 0 {
+        return found.ee_certificate;
+    }
+    found.ee_key
+}
+
+// How the record matches: usage 3 without names, usage 2 with them, and only while `wanted`; a record that does not count does not.
 fn record_match(
     entry: &[u8],
+    found: Sha512Pairs,
     wanted: bool,
     certificates: &[u8],
     lengths: &[u8],
@@ -243,10 +333,14 @@ fn record_match(
     digests: &[u8],
     paths: &[u8],
 ) -> Match
-    ensures { λ r. ⌜ r ≡ matchOf (passes false (certificatesOf (now (certificates .entry)) (now (lengths .entry)) (now (places .entry)) (now (digests .entry)) (now (paths .entry))) (now (entry .entry))) (passes wanted (certificatesOf (now (certificates .entry)) (now (lengths .entry)) (now (places .entry)) (now (digests .entry)) (now (paths .entry))) (now (entry .entry))) ⌝ }
+    ensures { λ r. ⌜ r ≡ matchOf (passes found false (certificatesOf (now (certificates .entry)) (now (lengths .entry)) (now (places .entry)) (now (digests .entry)) (now (paths .entry))) (now (entry .entry))) (passes found wanted (certificatesOf (now (certificates .entry)) (now (lengths .entry)) (now (places .entry)) (now (digests .entry)) (now (paths .entry))) (now (entry .entry))) ⌝ }
 {
     let usable = tlsa::is_usable(entry);
     if !usable {
+        return Match::Nothing;
+    }
+    let ignored = is_ignored(entry, found);
+    if ignored {
         return Match::Nothing;
     }
     if entry[0] == 3 {
@@ -266,8 +360,9 @@ fn record_match(
     Match::Named
 }
 
-// How the set matches. It is gone through once: after a match by usage 2, only usage 3 can still do without names.
+// How the set matches, by the pairs of which it has a SHA-512 record. It is gone through once: after a match by usage 2, only usage 3 can still do without names.
 fn set_match(
+    found: Sha512Pairs,
     sizes: &[u8],
     records: &[u8],
     certificates: &[u8],
@@ -276,7 +371,7 @@ fn set_match(
     digests: &[u8],
     paths: &[u8],
 ) -> Match
-    ensures { λ r. ⌜ r ≡ matchOf (any (passes false (certificatesOf (now (certificates .entry)) (now (lengths .entry)) (now (places .entry)) (now (digests .entry)) (now (paths .entry)))) (recordsOf (now (sizes .entry)) (now (records .entry)))) (any (passes true (certificatesOf (now (certificates .entry)) (now (lengths .entry)) (now (places .entry)) (now (digests .entry)) (now (paths .entry)))) (recordsOf (now (sizes .entry)) (now (records .entry)))) ⌝ }
+    ensures { λ r. ⌜ r ≡ matchOf (any (passes found false (certificatesOf (now (certificates .entry)) (now (lengths .entry)) (now (places .entry)) (now (digests .entry)) (now (paths .entry)))) (recordsOf (now (sizes .entry)) (now (records .entry)))) (any (passes found true (certificatesOf (now (certificates .entry)) (now (lengths .entry)) (now (places .entry)) (now (digests .entry)) (now (paths .entry)))) (recordsOf (now (sizes .entry)) (now (records .entry)))) ⌝ }
 {
     let n = numbers::count(sizes);
     let mut wanted = true;
@@ -284,8 +379,9 @@ fn set_match(
     let mut k = 0;
     while k < n {
         let e = numbers::end_at(sizes, k, at, records.len());
-        let found = record_match(
+        let hit = record_match(
             &records[at..e],
+            found,
             wanted,
             certificates,
             lengths,
@@ -293,7 +389,7 @@ fn set_match(
             digests,
             paths,
         );
-        match found {
+        match hit {
             Match::Unnamed => return Match::Unnamed,
             Match::Named => {
                 wanted = false;
@@ -410,7 +506,9 @@ pub fn dane_passes(
 ) -> bool
     ensures { λ r. ⌜ r ≡ danePasses (references origin (now (domain .entry)) (now («next_hop» .entry)) (when «expanded_given» (now («expanded_next_hop» .entry)))) (recordsOf (now (lengths .entry)) (now (records .entry))) (presentedOf (now (certificates .entry)) (now («certificate_lengths» .entry)) (now («key_places» .entry)) (now (digests .entry)) (now (paths .entry)) «trusted_root» (now («dns_ids» .entry)) (now («dns_id_lengths» .entry)) «common_name_given» (now («common_name» .entry))) ⌝ }
 {
-    let found = set_match(
+    let found = sha512_of(lengths, records);
+    let matched = set_match(
+        found,
         lengths,
         records,
         certificates,
@@ -419,7 +517,7 @@ pub fn dane_passes(
         digests,
         paths,
     );
-    match found {
+    match matched {
         Match::Unnamed => true,
         Match::Named => names_reference(
             origin,

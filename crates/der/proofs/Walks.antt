@@ -113,7 +113,7 @@ module _ (walk : Walker) (steps : Steps walk) (s : List ℕ) (at i : ℕ) (inv :
       run-next = inv ∙ run-goes walk s i more steps next (sym walked ∙ past)
 
 -- what stands in an element ends where the element does
-contents-end : (walk : Walker) (s : List ℕ) (h : Head) → h .start ≤ h .end → h .end ≤ length s → (n : ℕ) → walkContents (walkRun walk) s h ≡ Walk.Past n → n ≡ h .end
+pub contents-end : (walk : Walker) (s : List ℕ) (h : Head) → h .start ≤ h .end → h .end ≤ length s → (n : ℕ) → walkContents (walkRun walk) s h ≡ Walk.Past n → n ≡ h .end
 unfolding walkContents
 contents-end walk s h a b n e = go (isConstructed (h .tag)) e
   where

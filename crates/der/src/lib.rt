@@ -31,7 +31,7 @@ pub enum Walk {
 }
 
 // A byte as a number.
-fn wide(x: u8) -> usize
+pub fn wide(x: u8) -> usize
     ensures { λ r. ⌜ (r ≡ x) × (r < 256) ⌝ }
 {
     x as usize

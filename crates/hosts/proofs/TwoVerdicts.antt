@@ -7,7 +7,7 @@ use native.Mathlib.Omega.{arith}
 use lib.Dec.{eqb, leb}
 use lib.ListN.{length, drop, length-drop}
 use Rattle.lists.specs.Bytes.{all, any, isBytes}
-use Rattle.lists.proofs.Bools.{apart, and-intro, by-cond}
+use Rattle.lists.proofs.Bools.{apart, and-left, and-intro, by-cond}
 use Rattle.lists.proofs.Any.{any-none}
 use Rattle.lists.proofs.All.{all-drop}
 use Rattle.numbers.specs.Pieces.{upTo}
@@ -17,8 +17,9 @@ use Rattle.tlsa.specs.declared.Address.{Address}
 use Rattle.tlsa.specs.declared.Address.the-variants.{NoAliasSecure, NoAliasInsecure, AliasSecure, AliasFirstStepSecure, AliasFirstStepInsecure, Failed, NoAddress}
 use Rattle.tlsa.specs.Address.{hostName, NamesOrVerdict, names, namesToTry}
 use Rattle.tlsa.specs.Address as A
-use Rattle.tlsa.specs.Record.{dataOf, usable}
+use Rattle.tlsa.specs.Record.{dataOf, usable, counts}
 use Rattle.tlsa.specs.Answer.{Answer, secure, absent, failed, readOf, secureRecords}
+use Rattle.tlsa.proofs.Ignored.{some-counts}
 use Rattle.tlsa.proofs.Written.{set-each}
 use Rattle.certificates.specs.Facts.{Presented}
 use Rattle.certificates.specs.Checks.{references, namesReference, recordMatches, danePasses, showsHost}
@@ -65,7 +66,7 @@ late-last false true d true = refl
 late-last false true d false = refl
 late-last false false d s = refl
 
--- where no record is usable: any record
+-- where no record counts: any record
 abbrev spare : List ℕ
 spare = 0 ∷ 0 ∷ 0 ∷ 0 ∷ []
 
@@ -78,9 +79,9 @@ unfolding all
 spare-bytes = refl
 
 -- nothing matches where there is no certificate
-no-match : (named : Bool) (r : List ℕ) → (usable r && recordMatches named [] r) ≡ false
+no-match : (rs : List (List ℕ)) (named : Bool) (r : List ℕ) → (counts rs r && recordMatches named [] r) ≡ false
 unfolding recordMatches any
-no-match named r = simp and-false
+no-match rs named r = simp and-false
 
 module _ (b : Base) where
   -- a set taken: its name, and its records inside the limits
@@ -92,16 +93,16 @@ module _ (b : Base) where
   nobody-dane : (s : Taken) → needsDane s ≡ true → takenPasses b s nobody ≡ false
   unfolding danePasses
   nobody-dane nothing h = apart h
-  nobody-dane (set domain rs) h = any-none _ (no-match (namesReference (references (b .origin) domain (b .nextHop) (b .expandedNextHop)) nobody)) rs
+  nobody-dane (set domain rs) h = any-none _ (no-match rs (namesReference (references (b .origin) domain (b .nextHop) (b .expandedNextHop)) nobody)) rs
 
   nobody-sts : mtaStsPasses b nobody ≡ false
   unfolding mtaStsPasses showsHost
   nobody-sts = and-false (isListed b)
 
-  -- the one that passes: forged from the first usable record
+  -- the one that passes: forged from the first record that counts
   bytesOf : Taken → List ℕ
   bytesOf nothing = 0 ∷ []
-  bytesOf (set domain rs) = dataOf (pick usable spare rs)
+  bytesOf (set domain rs) = dataOf (pick (counts rs) spare rs)
 
   nameOf : Taken → List ℕ
   nameOf nothing = b .host
@@ -115,24 +116,25 @@ module _ (b : Base) where
     unfolding somebody bytesOf nameOf all
     somebody-ok nothing k = showing-ok (0 ∷ []) (b .host) (b .host) (host-ok .0) (host-ok .0) (omega arith) refl (host-ok .1) (host-ok .1)
     somebody-ok (set domain rs) k =
-        let r : List ℕ = pick usable spare rs in
-        let l : length r ≤ 4096 = upTo-true 4096 r (pick-all usable (upTo 4096) spare rs spare-short (set-each rs (k .1 .0))) in
-        let m : isBytes r ≡ true = pick-all usable isBytes spare rs spare-bytes (k .1 .1) in
+        let r : List ℕ = pick (counts rs) spare rs in
+        let l : length r ≤ 4096 = upTo-true 4096 r (pick-all (counts rs) (upTo 4096) spare rs spare-short (set-each rs (k .1 .0))) in
+        let m : isBytes r ≡ true = pick-all (counts rs) isBytes spare rs spare-bytes (k .1 .1) in
         showing-ok (drop 3 r) domain (b .host) (k .0 .0) (host-ok .0) (omega (arith, length-drop 3 r)) (all-drop (λ (x : ℕ). leb x 255) 3 r m) (k .0 .1) (host-ok .1)
 
     somebody-dane : (s : Taken) → TakenOk s → needsDane s ≡ true → takenPasses b s (somebody s) ≡ true
     unfolding somebody bytesOf nameOf danePasses
     somebody-dane nothing k h = apart h
     somebody-dane (set domain rs) k h =
-        let some-usable : any usable rs ≡ true = sym (authentication-is rs) ∙ h in
-        let r : List ℕ = pick usable spare rs in
-        let is-usable : usable r ≡ true = pick-passes usable spare rs some-usable in
-        pick-any usable _ spare rs some-usable (and-intro (usable r) _ is-usable (showing-matches r domain (b .host) (k .0 .0) (host-ok .0) is-usable (b .origin) (b .nextHop) (b .expandedNextHop)))
+        let some-counted : any (counts rs) rs ≡ true = some-counts rs (sym (authentication-is rs) ∙ h) in
+        let r : List ℕ = pick (counts rs) spare rs in
+        let is-counted : counts rs r ≡ true = pick-passes (counts rs) spare rs some-counted in
+        let is-usable : usable r ≡ true = and-left (usable r) _ is-counted in
+        pick-any (counts rs) _ spare rs some-counted (and-intro (counts rs r) _ is-counted (showing-matches r domain (b .host) (k .0 .0) (host-ok .0) is-usable (b .origin) (b .nextHop) (b .expandedNextHop)))
 
     somebody-sts : (s : Taken) → TakenOk s → isListed b ≡ true → mtaStsPasses b (somebody s) ≡ true
     unfolding somebody bytesOf nameOf mtaStsPasses
     somebody-sts nothing k l = and-intro (isListed b) _ l (showing-host (0 ∷ []) (b .host) (b .host) (host-ok .0) (host-ok .0))
-    somebody-sts (set domain rs) k l = and-intro (isListed b) _ l (showing-host (dataOf (pick usable spare rs)) domain (b .host) (k .0 .0) (host-ok .0))
+    somebody-sts (set domain rs) k l = and-intro (isListed b) _ l (showing-host (dataOf (pick (counts rs) spare rs)) domain (b .host) (k .0 .0) (host-ok .0))
 
     module _ (listed-ok : needsMtaSts b ≡ true → isListed b ≡ true) where
       matters-authenticate : (s : Taken) → TakenOk s → (version : ℕ) → Matters Ok (authenticate b s version)

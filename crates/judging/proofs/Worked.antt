@@ -11,7 +11,7 @@ use Rattle.numbers.specs.Numbers.{numbers, isWhole, sum, written}
 use Rattle.numbers.specs.Pieces.{cut, sumsTo, upTo, numbered}
 use Rattle.names.specs.Name.{labelByte, isLabel, isName, isStarred, isWildcard, isPattern, matchesName}
 use Rattle.clock.specs.Clock.{isReading}
-use Rattle.tlsa.specs.Record.{short, isUsage, isSelector, dataFits, usable}
+use Rattle.tlsa.specs.Record.{short, isUsage, isSelector, dataFits, usable, isSha512, ignored}
 use Rattle.tlsa.specs.Answer.{answerOf, setFits, answerFits, needsOf, takenOf, readOf}
 use Rattle.certificates.specs.Facts.{certificateAt, certificatesOf, presentedOf}
 use Rattle.certificates.specs.Limits.{certificateFits, totalOf, chainKeepsLimits, commonNameFits, namesKeepLimits, keepsLimits, oneForEach, chainFits, namesFit, factsFit, yesNo}
@@ -105,5 +105,5 @@ pub worked :
     ∷ says 65 0
     ∷ says 12 1
     ∷ []
-unfolding all any lowerOf agree sameByte sameLetter indexOf split toFirst numbers isWhole sum written cut sumsTo upTo numbered labelByte isLabel isName isStarred isWildcard isPattern matchesName isReading short isUsage isSelector dataFits usable answerOf setFits answerFits needsOf takenOf readOf certificateAt certificatesOf presentedOf certificateFits totalOf chainKeepsLimits commonNameFits namesKeepLimits keepsLimits oneForEach chainFits namesFit factsFit yesNo byType compared matchesCertificate matchesOnPath recordMatches furtherReference references leafNames namesReference danePasses showsHost isOld needsMtaSts isListed mtaStsPasses rules baseOf presentedIn factsOf codesFit clocksFit nextHopsFit hostNamesFit policyFits answersFit certificatesFit checks hostAnswer valueOf longSize shortSize headed header isConstructed withHead elementsFrom elements Der.andThen Der.runFrom Der.walkRun Der.walkContents Der.opened Der.walkElement isOf tagged holds orElse noting stringName builtName expects mayEnd noted andThen atEnd runFrom walkRun metAs metBy met passing leaving walkMet opened walkElement walkCertificate wholeOf contentsOf wholeAt contentsAt nameAt alternativesAt foundAt fieldsBy fieldsOf dnsNames dnsIdsFrom dnsIdsOf eachAs readingOf readLeaf namesText lengthsText givenOf commonNameIn isPresent hasLeaf leafOf onRead chainKeeps readAnswer chainAnswer certificateAnswer
+unfolding all any lowerOf agree sameByte sameLetter indexOf split toFirst numbers isWhole sum written cut sumsTo upTo numbered labelByte isLabel isName isStarred isWildcard isPattern matchesName isReading short isUsage isSelector dataFits usable isSha512 ignored answerOf setFits answerFits needsOf takenOf readOf certificateAt certificatesOf presentedOf certificateFits totalOf chainKeepsLimits commonNameFits namesKeepLimits keepsLimits oneForEach chainFits namesFit factsFit yesNo byType compared matchesCertificate matchesOnPath recordMatches furtherReference references leafNames namesReference danePasses showsHost isOld needsMtaSts isListed mtaStsPasses rules baseOf presentedIn factsOf codesFit clocksFit nextHopsFit hostNamesFit policyFits answersFit certificatesFit checks hostAnswer valueOf longSize shortSize headed header isConstructed withHead elementsFrom elements Der.andThen Der.runFrom Der.walkRun Der.walkContents Der.opened Der.walkElement isOf tagged holds orElse noting stringName builtName expects mayEnd noted andThen atEnd runFrom walkRun metAs metBy met passing leaving walkMet opened walkElement walkCertificate wholeOf contentsOf wholeAt contentsAt nameAt alternativesAt foundAt fieldsBy fieldsOf dnsNames dnsIdsFrom dnsIdsOf eachAs readingOf readLeaf namesText lengthsText givenOf commonNameIn isPresent hasLeaf leafOf onRead chainKeeps readAnswer chainAnswer certificateAnswer
 worked = refl

@@ -12,9 +12,6 @@ use x509::Found;
 use x509::Name;
 use x509::Part;
 
-// dNSName [2], the tag of a DNS-ID.
-const DNS_NAME: u8 = 130;
-
 // The most DNS-IDs that a certificate may have.
 const DNS_IDS_AT_MOST: usize = 64;
 
@@ -42,13 +39,6 @@ pub struct CertificateAnswer {
     pub common_name_length: u64,
 }
 
-// A byte as a number.
-fn wide(x: u8) -> usize
-    ensures { λ r. ⌜ (r ≡ x) × (r < 256) ⌝ }
-{
-    x as usize
-}
-
 // The first DNS-ID from `at` on: at sight where it stands there with a length of one byte, else a reader moves from element to element.
 pub fn next_dns_id(s: &[u8], at: usize) -> Name
     ensures { λ r. ⌜ r ≡ firstOf (dnsIdsFrom (now (s .entry)) at) ⌝ }
@@ -57,8 +47,8 @@ pub fn next_dns_id(s: &[u8], at: usize) -> Name
         return Name::Absent;
     }
     if at <= s.len() - 2 {
-        if s[at] == DNS_NAME {
-            let size = wide(s[at + 1]);
+        if s[at] == x509::DNS_NAME {
+            let size = der::wide(s[at + 1]);
             if size < 128 {
                 let start = at + 2;
                 let end = start + size;
@@ -77,7 +67,7 @@ pub fn next_dns_id(s: &[u8], at: usize) -> Name
             Step::Element(head) => {
                 let start = head.start;
                 let end = head.end;
-                if head.tag == DNS_NAME {
+                if head.tag == x509::DNS_NAME {
                     return Name::Given(Part { start, end });
                 }
                 i = end;

@@ -1,4 +1,5 @@
 pub mod Record
+pub mod Ignored
 pub mod Answer
 pub mod Short
 pub mod Meaning

@@ -8,7 +8,7 @@ use lib.ListN.{replicate}
 use Rattle.lists.specs.Bytes.{all, any}
 use Rattle.numbers.specs.Numbers.{numbers, isWhole, sum, written}
 use Rattle.numbers.specs.Pieces.{cut, sumsTo, upTo}
-use Rattle.tlsa.specs.Record.{short, isUsage, isSelector, dataFits, usable}
+use Rattle.tlsa.specs.Record.{short, isUsage, isSelector, dataFits, usable, isSha512, ignored, counts}
 use Rattle.tlsa.specs.Answer.{answerOf, setFits, answerFits, needsOf, takenOf, readOf, lookupVerdict}
 use Rattle.tlsa.specs.declared.Lookup.the-variants.{Secure, Insecure, Absent, Failed}
 use Rattle.tlsa.specs.declared.Needs.the-variants.{Tls, Authentication}
@@ -37,6 +37,37 @@ unusable-ones :
     ≡ replicate 14 false
 unfolding usable short isUsage isSelector dataFits
 unusable-ones = refl
+
+-- Strongest digest only. `3 1 1` is ignored beside `3 1 2`; not where its data have 63 or 65 bytes, beside another selector or usage, beside one that is not usable,
+-- or beside another matching type.
+ignored-beside :
+    map (λ (s : List ℕ). ignored (rec 3 1 1 32 ∷ s ∷ []) (rec 3 1 1 32))
+    (rec 3 1 2 64 ∷ rec 3 1 2 63 ∷ rec 3 1 2 65 ∷ rec 3 0 2 64 ∷ rec 2 1 2 64 ∷ rec 2 0 2 64 ∷ rec 1 1 2 64 ∷ rec 3 2 2 64 ∷ rec 3 1 0 64 ∷ rec 3 1 1 32 ∷ rec 3 1 3 64
+    ∷ [])
+    ≡ true ∷ replicate 10 false
+unfolding ignored isSha512 any usable short isUsage isSelector dataFits
+ignored-beside = refl
+
+-- beside `3 1 2` and `2 0 2`: types 0, 1 and 2 of the same usage and selector, type 1 of the other two, and one that is not usable
+counting-beside :
+    map (counts (rec 3 1 2 64 ∷ rec 2 0 2 64 ∷ []))
+    (rec 3 1 0 1 ∷ rec 3 1 1 32 ∷ rec 3 1 2 64 ∷ rec 2 0 0 1 ∷ rec 2 0 1 32 ∷ rec 2 0 2 64 ∷ rec 3 0 1 32 ∷ rec 2 1 1 32 ∷ rec 1 1 2 64
+    ∷ [])
+    ≡ true ∷ false ∷ true ∷ true ∷ false ∷ true ∷ true ∷ true ∷ false ∷ []
+unfolding ignored isSha512 any usable short isUsage isSelector dataFits
+counting-beside = refl
+
+-- each pair of usage and selector has its own: of the SHA-256 records of all four, beside one SHA-512 record
+one-pair-each :
+    map (λ (s : List ℕ). map (ignored (s ∷ [])) (rec 2 0 1 32 ∷ rec 2 1 1 32 ∷ rec 3 0 1 32 ∷ rec 3 1 1 32 ∷ []))
+    (rec 2 0 2 64 ∷ rec 2 1 2 64 ∷ rec 3 0 2 64 ∷ rec 3 1 2 64 ∷ [])
+    ≡ (true ∷ false ∷ false ∷ false ∷ [])
+    ∷ (false ∷ true ∷ false ∷ false ∷ [])
+    ∷ (false ∷ false ∷ true ∷ false ∷ [])
+    ∷ (false ∷ false ∷ false ∷ true ∷ [])
+    ∷ []
+unfolding ignored isSha512 any usable short isUsage isSelector dataFits
+one-pair-each = refl
 
 -- lists of one record, `1 1 1`, `3 1 1`, and one of 2 bytes
 abbrev one : List ℕ

@@ -4,6 +4,7 @@ use mathlib.Core.Bool.{Bool, not, _&&_, _||_}
 use mathlib.Core.List.{List}
 use lib.Dec.{eqb, leb, ltb}
 use lib.ListN.{length, getD, drop}
+use Rattle.lists.specs.Bytes.{any}
 
 -- A record is usage, selector, matching type, data: one byte for each of the first three, and the rest.
 abbrev pub usageOf : List ℕ → ℕ
@@ -38,6 +39,16 @@ dataFits matchingType n = eqb matchingType 0 && leb 1 n || eqb matchingType 1 &&
 unfoldable pub usable : List ℕ → Bool
 usable r = not (short r) && isUsage (usageOf r) && isSelector (selectorOf r) && dataFits (matchingTypeOf r) (length (dataOf r))
 
--- The records of a set that count when the set is matched with certificates: the usable ones.
-abbrev pub counts : List (List ℕ) → List ℕ → Bool
-counts set r = usable r
+-- Document 02, No. 8: strongest digest only (RFC 7671, section 9, named by RFC 7672, section 5).
+-- A usable record of a usage and selector with matching type 2, SHA-512.
+unfoldable pub isSha512 : (usage selector : ℕ) → List ℕ → Bool
+isSha512 usage selector r = usable r && eqb (usageOf r) usage && eqb (selectorOf r) selector && eqb (matchingTypeOf r) 2
+
+-- A record of a set is ignored: it has matching type 1, SHA-256, and a usable record of the same usage and selector with type 2 is present in the set.
+-- (Of a record that is not usable it makes no difference: it does not count anyway.)
+unfoldable pub ignored : (set : List (List ℕ)) → List ℕ → Bool
+ignored set r = eqb (matchingTypeOf r) 1 && any (isSha512 (usageOf r) (selectorOf r)) set
+
+-- A record of a set counts when the set is matched with certificates: it is usable and not ignored.
+abbrev pub counts : (set : List (List ℕ)) → List ℕ → Bool
+counts set r = usable r && not (ignored set r)

@@ -2,7 +2,7 @@
 -- A host of example.com at the clock 605,000; the policy was fetched at 1,000 and is live until 605,800.
 use Prim.Native.Nat.{ℕ}
 use mathlib.Core.Path.{_≡_, refl}
-use mathlib.Core.List.{List, [], _∷_, _++_, map}
+use mathlib.Core.List.{List, [], _∷_, _++_, map, flatten}
 use lib.ListN.{length, replicate}
 use Rattle.lists.specs.Text.{text}
 use Rattle.numbers.specs.Numbers.{written}
@@ -12,6 +12,7 @@ use Rattle.hosts.specs.Call.{hostAnswer}
 use Rattle.hosts.specs.Demands.{fullOf}
 use Rattle.hosts.specs.Verdicts.{testsOf, conditions, holding, countOf}
 use Rattle.hosts.proofs.NextHops.{withExpanded, withNextHop}
+use Rattle.hosts.proofs.Digests.{withSets}
 use Rattle.hosts.proofs.Versions.{withVersion}
 use Rattle.tweedstork.proofs.Cases.{hostComputed}
 
@@ -270,3 +271,48 @@ pub refused-versions :
     ≡ 67 ∷ 67 ∷ 67 ∷ 25 ∷ []
 unfolding hostComputed
 refused-versions = refl
+
+-- Strongest digest only (document 02, No. 8). The leaf's key info has SHA-256 of sevens and SHA-512 of zeros: `matching` and `strong` have them, `other` and `rotated` have not
+abbrev strong : List ℕ
+strong = 3 ∷ 1 ∷ 2 ∷ replicate 64 0
+
+abbrev rotated : List ℕ
+rotated = 3 ∷ 1 ∷ 2 ∷ replicate 64 8
+
+-- a full set whose first TLSA answer has these records
+abbrev withRecords : List (List ℕ) → Arguments → Arguments
+withRecords set a = withSets (written (map length set)) (flatten set) [] [] a
+
+-- The merchant's story: keys were rotated, and one of the two records was updated. Where only the SHA-256 record matches, 26; where the SHA-512 record does, 3; in either order. Then SHA-256 that
+-- matches beside SHA-512 of 63 bytes, of the other selector, of the other usage and of usage 1: 3. Then types 0, 1 and 2, of which type 0 alone matches: 3; and type 1 alone: 26
+pub each-digest :
+    map (λ (set : List (List ℕ)). resultOf (withRecords set (fullWith 1 1 2 mail 1 [] 3 1 1 1 mail)))
+    ((matching ∷ rotated ∷ [])
+    ∷ (rotated ∷ matching ∷ [])
+    ∷ (other ∷ strong ∷ [])
+    ∷ (strong ∷ other ∷ [])
+    ∷ (matching ∷ (3 ∷ 1 ∷ 2 ∷ replicate 63 8) ∷ [])
+    ∷ (matching ∷ (3 ∷ 0 ∷ 2 ∷ replicate 64 8) ∷ [])
+    ∷ (matching ∷ (2 ∷ 1 ∷ 2 ∷ replicate 64 8) ∷ [])
+    ∷ (matching ∷ (1 ∷ 1 ∷ 2 ∷ replicate 64 8) ∷ [])
+    ∷ ((3 ∷ 1 ∷ 0 ∷ 1 ∷ []) ∷ other ∷ rotated ∷ [])
+    ∷ ((3 ∷ 1 ∷ 0 ∷ 2 ∷ []) ∷ matching ∷ rotated ∷ [])
+    ∷ [])
+    ≡ alone 26 1 ∷ alone 26 1 ∷ alone 3 1 ∷ alone 3 1 ∷ alone 3 1 ∷ alone 3 1 ∷ alone 3 1 ∷ alone 3 1 ∷ alone 3 1 ∷ alone 26 1 ∷ []
+unfolding hostComputed fullOf testsOf countOf flatten
+each-digest = refl
+
+-- What a host needs doesn't change. Where only an ignored record matches: DANE, beside a policy that passes (26) and one that doesn't (26); TLS not offered (24), handshake failed (25), an old
+-- version (28). Where no record is usable, TLS alone (2)
+pub each-need-beside-an-ignored-record :
+    map (λ (a : Arguments). hostAnswer a .number)
+    (withRecords (matching ∷ rotated ∷ []) (fullWith 1 1 1 mail 1 [] 3 1 1 1 mail)
+    ∷ withRecords (matching ∷ rotated ∷ []) (fullWith 1 1 1 mail 1 [] 3 1 1 1 stray)
+    ∷ withRecords (matching ∷ rotated ∷ []) (fullWith 1 1 2 mail 1 [] 3 2 1 1 mail)
+    ∷ withRecords (matching ∷ rotated ∷ []) (fullWith 1 1 2 mail 1 [] 3 1 2 1 mail)
+    ∷ withVersion 770 (withRecords (matching ∷ rotated ∷ []) (fullWith 1 1 2 mail 1 [] 3 1 1 1 mail))
+    ∷ withRecords (usage1 ∷ (1 ∷ 1 ∷ 2 ∷ replicate 64 8) ∷ []) (fullWith 1 1 2 mail 1 [] 3 1 1 1 mail)
+    ∷ [])
+    ≡ 26 ∷ 26 ∷ 24 ∷ 25 ∷ 28 ∷ 2 ∷ []
+unfolding hostComputed flatten
+each-need-beside-an-ignored-record = refl

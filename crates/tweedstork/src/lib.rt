@@ -30,7 +30,7 @@ use writing::WriteAnswer;
 pub extern "C" fn tweedstork_version() -> u64
     ensures { λ r. ⌜ r ≡ version ⌝ }
 {
-    10700
+    10800
 }
 
 // Which MTA-STS record do these TXT RDATAs hold, and what is its id?

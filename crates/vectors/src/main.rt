@@ -40,6 +40,7 @@ fn main() {
     let c = run_file(b"read_policy.cases", c);
     let c = run_file(b"judge_host.cases", c);
     let c = run_file(b"judge_host_limits.cases", c);
+    let c = run_file(b"judge_host_digests.cases", c);
     let c = run_file(b"next_host.cases", c);
     let c = run_file(b"cache.cases", c);
     let c = run_file(b"cache_limits.cases", c);

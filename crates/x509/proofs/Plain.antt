@@ -13,7 +13,7 @@ use Rattle.der.specs.declared.Walk.{Walk}
 use Rattle.der.specs.Header.{header, isConstructed}
 use Rattle.der.specs.Walk as Der
 use Rattle.der.proofs.Heads.{opens-bounds, end-inside}
-use Rattle.der.proofs.Walks.{run-ends}
+use Rattle.der.proofs.Walks.{contents-end}
 use Rattle.x509.specs.declared.Place.{Place}
 use Rattle.x509.specs.declared.Noted.{Noted}
 use Rattle.x509.specs.declared.Met.{Met}
@@ -25,18 +25,6 @@ use Rattle.x509.proofs.Walks.{fault-past, same-end}
 -- no run both has a fault and has none
 pub run-apart : {A : Type 0} (o : ℕ) (m : Noted) → RunWalk.Fault o ≡ RunWalk.Past m → A
 run-apart o m e = never cc
-
-walk-end : (n m : ℕ) → Walk.Past n ≡ Walk.Past m → n ≡ m
-walk-end n m e = cc
-
--- X.690's walk of an element ends where its header says
-contents-end : (walk : Der.Walker) (s : List ℕ) (h : Head) → h .start ≤ h .end → h .end ≤ length s → (n : ℕ) → Der.walkContents (Der.walkRun walk) s h ≡ Walk.Past n → n ≡ h .end
-unfolding Der.walkContents
-contents-end walk s h order inside n e = go (isConstructed (h .tag)) e
-  where
-    go : (c : Bool) → cond c (Der.walkRun walk (take (h .end) s) (h .start)) (Walk.Past (h .end)) ≡ Walk.Past n → n ≡ h .end
-    go true e = let l = length-take-le (h .end) s inside in omega (arith, run-ends walk (take (h .end) s) (h .start) n (omega (arith, l, order)) e, l)
-    go false e = sym (walk-end (h .end) n e)
 
 opened-ends : (walk : Der.Walker) (s : List ℕ) (at n : ℕ) (d : Header) (h : Head) → header at (drop at s) ≡ d → d ≡ Header.Opens h → Der.opened (Der.walkRun walk) s at d ≡ Walk.Past n → n ≡ h .end
 unfolding Der.opened

@@ -59,7 +59,7 @@ impl Check<'_> {
         self.certificate(what, &hex(text), Err((90, offset)));
     }
 
-    fn host_certificate(&mut self, what: &str, call: &HostCall, wanted: (u64, u64)) {
+    pub fn host_certificate(&mut self, what: &str, call: &HostCall, wanted: (u64, u64)) {
         let ours = certificate::judge_host_certificate(call);
         let theirs = self.lender.judge_host_certificate(call, MIDDLE);
         self.same(what, wanted, ours, theirs);
@@ -264,7 +264,7 @@ fn limits(c: &mut Check) {
 // ----------------------------------------------------------------------------------------------------------------- the host's call
 
 /// A plain host with a live policy and the record `3 1 0` of the leaf's key info, and a leaf with these names, all given.
-fn shown(dns_ids: &[&[u8]], common_name: Option<&[u8]>) -> HostCall {
+pub fn shown(dns_ids: &[&[u8]], common_name: Option<&[u8]>) -> HostCall {
     let names = dns_ids.iter().map(|name| leaf(0x82, name)).collect();
     let common_name = common_name.map(|name| node(0x31, vec![node(0x30, vec![leaf(0x06, &[0x55, 0x04, 0x03]), leaf(0x0c, name)])]));
     let empty = || node(0x30, vec![]);

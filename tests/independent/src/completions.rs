@@ -3,7 +3,9 @@
 //! each other.
 
 use crate::boundary::{Lender, Place};
+use crate::digests::{is_ignored, is_usable};
 use crate::inputs::{self, list};
+use crate::leaves::pieces;
 use crate::random::Random;
 use independent_rules::rules::{HostAnswer, HostCall, TlsaAnswer};
 
@@ -91,8 +93,10 @@ fn passing(c: &HostCall, record: &[u8], reference: &[u8]) -> HostCall {
     f
 }
 
-fn is_usable(r: &[u8]) -> bool {
-    r.len() > 3 && (r[0] == 2 || r[0] == 3) && r[1] < 2 && (r[2] == 0 || (r[2] == 1 && r.len() == 35) || (r[2] == 2 && r.len() == 67))
+/// The last record that can be used and is not ignored; where there is none, no byte.
+fn last_counting(set: &TlsaAnswer) -> Vec<u8> {
+    let records = pieces(&set.records, &set.lengths).unwrap_or_default();
+    records.iter().rev().find(|record| is_usable(record) && !is_ignored(record, &records)).cloned().unwrap_or_default()
 }
 
 /// The case's answer number, or what is wrong.
@@ -128,20 +132,12 @@ pub fn run_case(lender: &mut Lender, seed: u64, case: u64) -> Result<u64, String
         11 => Some((bare(3, 1, 2, 0), bare(3, 1, 1, inputs::wire_version(&mut r)))),
         12 => {
             let base = if c.address == 3 && questions == 1 { c.expanded.clone() } else { c.host.clone() };
-            let mut record: &[u8] = b"";
+            let mut record = vec![];
             if questions > 0 && c.tlsa[questions as usize - 1].result == 1 {
-                let set = &c.tlsa[questions as usize - 1];
-                let mut rest = &set.records[..];
-                for l in set.lengths.chunks_exact(4) {
-                    let (one, after) = rest.split_at(u32::from_be_bytes([l[0], l[1], l[2], l[3]]) as usize);
-                    rest = after;
-                    if is_usable(one) {
-                        record = one;
-                    }
-                }
+                record = last_counting(&c.tlsa[questions as usize - 1]);
             }
             let reference = *r.pick(&references(&c, &base));
-            Some((bare(3, 1, 1, 0x0303), passing(&c, record, reference)))
+            Some((bare(3, 1, 1, 0x0303), passing(&c, &record, reference)))
         }
         _ => None,
     };

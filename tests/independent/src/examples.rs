@@ -5,6 +5,7 @@ use crate::arguments::Shown;
 use crate::boundary::{Lender, Place, PolicyCall, Side, StoreCall};
 use crate::caches::Cache;
 use crate::certificate_examples;
+use crate::digest_examples;
 use crate::inputs::{lengths_of, list, NEW_VERSIONS, NO_VERSIONS, OLD_VERSIONS};
 use independent_rules::cache::{self, Entry, LookupAnswer, ROOM};
 use independent_rules::publish::{self, WriteAnswer};
@@ -57,7 +58,7 @@ impl Check<'_> {
         self.policy(body.as_bytes(), PolicyAnswer { number, line, offset, ..Default::default() });
     }
 
-    fn host(&mut self, what: &str, call: &HostCall, wanted: (u64, u64)) {
+    pub fn host(&mut self, what: &str, call: &HostCall, wanted: (u64, u64)) {
         let ours = rules::judge_host(call);
         let theirs = self.lender.judge_host(call, BEFORE_GUARD);
         self.same(what, wanted, ours, theirs);
@@ -681,6 +682,7 @@ pub fn run(lender: &mut Lender) -> (u64, Vec<HostCall>) {
     refused_next_hops(&mut c);
     old_versions(&mut c, &named);
     ignored_versions(&mut c, &named);
+    digest_examples::run(&mut c);
 
     written_texts(&mut c);
     written_policies(&mut c);

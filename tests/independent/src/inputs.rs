@@ -770,6 +770,11 @@ fn record(r: &mut Random, c: &Chain) -> Vec<u8> {
     let usage = *r.pick(&[3, 3, 3, 3, 3, 2, 2, 2, 2, 2, 2, 0, 1, 4, 255]);
     let selector = *r.pick(&[0, 0, 0, 0, 1, 1, 1, 1, 1, 2, 255]);
     let kind = *r.pick(&[0, 0, 0, 1, 1, 1, 1, 2, 2, 2, 3, 255]);
+    record_of(r, c, [usage, selector, kind])
+}
+
+/// The same, of this usage, selector and matching type.
+fn record_of(r: &mut Random, c: &Chain, [usage, selector, kind]: [u8; 3]) -> Vec<u8> {
     let mut s: Vec<u8> = vec![usage, selector, kind];
     let from = match c.certificates.len() {
         0 => None,
@@ -819,7 +824,50 @@ fn record(r: &mut Random, c: &Chain) -> Vec<u8> {
     s
 }
 
+/// The head of a record of this usage, selector and matching type; in some, one of them is another.
+fn near_head(r: &mut Random, [usage, selector, kind]: [u8; 3]) -> [u8; 3] {
+    match r.below(16) {
+        0 | 1 => [5 - usage, selector, kind],
+        2 | 3 => [usage, 1 - selector, kind],
+        4 => [*r.pick(&[0, 1, 4, 4, 4]), selector, kind],
+        5 => [usage, *r.pick(&[2, 3, 255]), kind],
+        6 => [usage, selector, *r.pick(&[3, 4, 255])],
+        _ => [usage, selector, kind],
+    }
+}
+
+/// Records of one usage and selector, or in most of the shorter sets nearly all, so that a type 2 decides on what a type 1 is worth
+/// (document 02, No. 8). In a third of the sets it is the last record alone. All records of a type have a bit changed, or none has.
+fn digests_set(r: &mut Random, c: &Chain) -> Vec<Vec<u8>> {
+    let n = match r.below(16) {
+        0 | 1 => 32,
+        2 => r.between(5, 31),
+        _ => r.between(2, 4),
+    };
+    let (usage, selector, last) = (r.between(2, 3) as u8, r.below(2) as u8, r.once_in(3));
+    let (differs, near) = ([r.once_in(2), r.once_in(2), r.once_in(2)], n <= 4 && !r.once_in(3));
+    let mut set = Vec::new();
+    for i in 0..n {
+        let kind = if last { *r.pick(&[0, 1, 1, 1]) } else { *r.pick(&[0, 1, 1, 1, 2, 2]) };
+        let head = [usage, selector, if last && i + 1 == n { 2 } else { kind }];
+        let head = if near { near_head(r, head) } else { head };
+        let mut record = record_of(r, c, head);
+        if differs.get(head[2] as usize) == Some(&true) && record.len() > 3 {
+            let at = r.between(3, record.len() - 1);
+            record[at] ^= 1 << r.below(8);
+        }
+        if near && r.once_in(6) {
+            record.resize(3 + *r.pick(&[0, 63, 65]), 0);
+        }
+        set.push(record);
+    }
+    set
+}
+
 fn tlsa_set(r: &mut Random, c: &Chain) -> Vec<Vec<u8>> {
+    if r.once_in(4) {
+        return digests_set(r, c);
+    }
     let n = match r.below(60) {
         0..=8 => 0,
         9 => 31,
@@ -846,6 +894,17 @@ fn tlsa_set(r: &mut Random, c: &Chain) -> Vec<Vec<u8>> {
             s
         })
         .collect()
+}
+
+/// A type 2 that matches nothing joins an answer: mostly of the usage and selector of a first record, there or in the other answer.
+fn join_digest(r: &mut Random, c: &mut HostCall) {
+    let front = c.tlsa[r.below(2)].records.get(..2).map_or([3, 1], |front| [front[0].clamp(2, 3), front[1].min(1)]);
+    let [usage, selector, _] = near_head(r, [front[0], front[1], 2]);
+    let data = r.bytes(64);
+    let size = *r.pick(&[64, 64, 64, 64, 63, 0]);
+    let answer = &mut c.tlsa[r.below(2)];
+    answer.lengths.extend(list(&[3 + size as u64]));
+    answer.records.extend([&[usage, selector, 2], &data[..size]].concat());
 }
 
 fn tlsa(r: &mut Random, c: &Chain) -> TlsaAnswer {
@@ -940,6 +999,34 @@ fn name_expanded_next_hop(r: &mut Random, c: &mut HostCall, chain: &Chain) {
         ids.clear();
     }
     (c.dns_ids, c.dns_id_lengths) = (ids.concat(), list(&lengths_of(&ids)));
+}
+
+/// A type 1 that matches, and a type 2 that mostly doesn't, or what is near one: in the same set, in a few as the last of 32, or in
+/// the other answer of an alias. Under usage 2 the leaf names the host.
+fn hang_on_digests(r: &mut Random, c: &mut HostCall, chain: &Chain) {
+    let Some(last) = chain.certificates.len().checked_sub(1) else { return };
+    let (usage, selector) = (if last == 0 { 3 } else { r.between(2, 3) as u8 }, r.below(2) as u8);
+    let i = if usage == 3 { 0 } else { r.between(1, last) };
+    c.paths[4 * i..4 * i + 4].copy_from_slice(&[0, 0, 0, 1]);
+    let digests = &chain.digests[192 * i + 96 * selector as usize..][..96];
+    let one = [&[usage, selector, 1], &digests[..32]].concat();
+    let mut two = [&near_head(r, [usage, selector, 2]), &digests[32..]].concat();
+    two[3] ^= !r.once_in(4) as u8;
+    two.resize(3 + *r.pick(&[64, 64, 64, 0, 63, 65]), 0);
+    let mut both = vec![one.clone(), two.clone()];
+    r.shuffle(&mut both);
+    c.address = *r.pick(&[1, 3]);
+    let sets = match r.below(8) {
+        0 => [[vec![one; 31], vec![two]].concat(), both],
+        1..=3 if c.address == 3 => [vec![both.remove(0)], both],
+        _ => [both.clone(), both],
+    };
+    c.tlsa = sets.map(|set| TlsaAnswer { result: 1, lengths: list(&lengths_of(&set)), records: set.concat() });
+    c.tlsa_answers = if c.address == 3 { 2 } else { 1 };
+    if c.address == 3 && r.once_in(2) {
+        c.tlsa[0].result = *r.pick(&[2, 3]);
+    }
+    (c.dns_ids, c.dns_id_lengths) = (c.host.clone(), list(&[c.host.len() as u64]));
 }
 
 pub fn host(r: &mut Random) -> HostCall {
@@ -1074,6 +1161,9 @@ pub fn host(r: &mut Random) -> HostCall {
             c.tlsa[i].result = r.byte() as u64;
         }
     }
+    if r.once_in(12) {
+        join_digest(r, &mut c);
+    }
     let depth = if far { 12 } else { r.below(12) };
     c.starttls = if depth == 1 { 2 } else { 1 };
     c.handshake = if depth == 2 { 2 } else { 1 };
@@ -1109,6 +1199,8 @@ pub fn host(r: &mut Random) -> HostCall {
     }
     if far && r.once_in(4) {
         name_expanded_next_hop(r, &mut c, &chain);
+    } else if far && r.once_in(8) {
+        hang_on_digests(r, &mut c, &chain);
     }
     let mutations = match r.below(10) {
         0..=5 => 0,
@@ -1183,7 +1275,7 @@ fn mutate_bytes(r: &mut Random, s: &mut Vec<u8>) {
 
 fn mutate_host(r: &mut Random, c: &mut HostCall) {
     let clock = |r: &mut Random| *r.pick(&[0, LAST_CLOCK, LAST_CLOCK + 1, LAST_CLOCK + 2, 1 << 38, u64::MAX, 1 << 63]);
-    match r.below(44) {
+    match r.below(45) {
         0 => c.clock = clock(r),
         1 => c.fetched = clock(r),
         2 => c.next_hop = bad_name(r, &c.next_hop.clone()),
@@ -1364,6 +1456,7 @@ fn mutate_host(r: &mut Random, c: &mut HostCall) {
         }
         41 => c.expanded_next_hop_given = 3 - c.expanded_next_hop_given.clamp(1, 2),
         42 => c.tls_version = any_version(r),
+        43 => join_digest(r, c),
         _ => {
             let i = r.below(2);
             c.tlsa[i].result = r.between(1, 4) as u64;

@@ -4,6 +4,7 @@
 
 use crate::arguments;
 use crate::boundary::{self, Lender, Place};
+use crate::digests;
 use crate::inputs::{self, lengths_of, list};
 use crate::publishing::{Way, Ways};
 use crate::random::Random;
@@ -16,7 +17,7 @@ use std::time::Instant;
 // -------------------------------------------------------------------------------------------------------------------- calls
 
 /// The parts that a list of lengths cuts, where it sums.
-fn pieces(bytes: &[u8], lengths: &[u8]) -> Option<Vec<Vec<u8>>> {
+pub fn pieces(bytes: &[u8], lengths: &[u8]) -> Option<Vec<Vec<u8>>> {
     let (mut rest, mut out) = (bytes, Vec::new());
     for n in lengths.chunks(4) {
         let n = u32::from_be_bytes(n.try_into().ok()?) as usize;
@@ -112,7 +113,7 @@ pub fn call(r: &mut Random) -> HostCall {
 }
 
 /// The plain call on the facts of the leaf, or on those of a leaf with an empty key info and no names.
-fn plain(c: &HostCall, facts: Option<&LeafFacts>) -> HostCall {
+pub fn plain(c: &HostCall, facts: Option<&LeafFacts>) -> HostCall {
     let place = facts.map_or(&[0; 8][..], |facts| &facts.key_place);
     let name = facts.and_then(|facts| facts.common_name.clone());
     HostCall {
@@ -129,7 +130,7 @@ pub fn judge(lender: &mut Lender, r: &mut Random, place: Place, seen: &mut Ways)
     let c = call(r);
     let ours = certificate::judge_host_certificate(&c);
     let theirs = lender.judge_host_certificate(&c, place);
-    seen.count(&ways(&c, ours.0));
+    seen.count(&[&ways(&c, ours.0)[..], &digests::ways(&c, certificate::judge_host_certificate, ours)].concat());
     outcome(theirs.0, ours, theirs, move || arguments::host_certificate(&c))
 }
 

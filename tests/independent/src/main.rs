@@ -12,6 +12,9 @@ mod certificate_examples;
 mod certificates;
 mod claims;
 mod completions;
+mod digest_examples;
+mod digest_sets;
+mod digests;
 mod examples;
 mod faults;
 mod histories;
@@ -62,7 +65,7 @@ const STREAMS: [u64; 9] = [0, 1, 2, 3, 8, 9, 10, 14, 18];
 /// Of the cases that are asked for, a call gets one in so many.
 const ONE_IN: [u64; 9] = [1, 1, 1, 1, 1, 4, 4, 5, 10];
 /// Of so many cases each answer of a call has to come, each fault of a policy in every place, each fault of a certificate, and each
-/// way of the expanded next-hop, of the version, of the calls that write and of those that read a certificate.
+/// way of the expanded next-hop, of the version, of several digests, of the calls that write and of those that read a certificate.
 const MANY: u64 = 100_000;
 const THREADS: u64 = 2;
 
@@ -102,7 +105,7 @@ fn run_case(lender: &mut Lender, seed: u64, call: usize, case: u64, seen: &mut S
             let ours = rules::judge_host(&c);
             let theirs = lender.judge_host(&c, place);
             seen.next_hops.count(&c, ours.0);
-            seen.ways.count(&versions::ways(&c, ours.0));
+            seen.ways.count(&[&versions::ways(&c, ours.0)[..], &digests::ways(&c, rules::judge_host, ours)].concat());
             outcome(theirs.0, ours, theirs, move || arguments::host(&c))
         }
         3 => {
@@ -122,7 +125,7 @@ fn run_case(lender: &mut Lender, seed: u64, call: usize, case: u64, seen: &mut S
 type Table = BTreeMap<u64, u64>;
 
 /// How often each answer number of a call came, where the lines that offend stood, what hung on the expanded next-hop, what was
-/// wrong with certificates, and the ways of the version, of a call that writes or of one that reads the leaf.
+/// wrong with certificates, and the ways of the version, of several digests, of a call that writes or of one that reads the leaf.
 #[derive(Default)]
 struct Seen {
     numbers: Table,
@@ -229,6 +232,8 @@ fn main() {
     passed += claims::run(&mut lender, seed, (cases / 5_000).max(300));
     passed += round_trips::run(&mut lender, seed, (cases / 25).max(5_000));
     passed += versions::run(&mut lender, seed, (cases / 10).max(100_000), &hosts);
+    passed += digest_sets::run(&mut lender, seed);
+    passed += digests::run(&mut lender, seed, (cases / 10).max(100_000));
     passed += certificates::run(&mut lender, seed);
     passed += leaves::run(&mut lender, seed, (cases / 25).max(50_000));
     let begun = Instant::now();

@@ -1,7 +1,7 @@
 //! The rules of document 01 ("What is being built, with exact rules"), and what document 02's No. 2 ("Say what is wrong with a
-//! policy"), No. 3 ("The third reference name") and No. 6 ("Old TLS") make of them, written a second time and independently of the
-//! library: plain safe Rust over whole values, with no thought for speed. Comments quote document 01, or 02 where they name it;
-//! "reading n" is the list of readings in docs/DECISIONS.md.
+//! policy"), No. 3 ("The third reference name"), No. 6 ("Old TLS") and No. 8 ("Strongest digest only") make of them, written a
+//! second time and independently of the library: plain safe Rust over whole values, with no thought for speed. Comments quote
+//! document 01, or 02 where they name it; "reading n" is the list of readings in docs/DECISIONS.md.
 
 use std::ops::Deref;
 
@@ -643,8 +643,17 @@ fn certificate_facts<B: Deref<Target = [u8]>>(call: &HostCall<B>) -> Option<Cert
     Some(CertificateFacts { certificates, trusted_root: call.trusted_root == 1, dns_ids, common_name })
 }
 
+/// The usable records of a set that are not ignored. Document 02, No. 8: "among usable records of the same usage and selector, type
+/// 1 is ignored if a type 2 is present; type 0 always counts".
+fn counting<'a>(records: &[&'a [u8]]) -> Vec<&'a [u8]> {
+    let usable = || records.iter().copied().filter(|r| is_usable(r));
+    let with_type_2: Vec<(u8, u8)> = usable().filter(|r| r[2] == 2).map(|r| (r[0], r[1])).collect();
+    usable().filter(|r| r[2] != 1 || !with_type_2.contains(&(r[0], r[1]))).collect()
+}
+
 /// "DANE passes when one usable record matches: usage 3 against the leaf alone, without name or date checks; usage 2 against a
-/// certificate after the leaf whose path flag holds, with the leaf naming a reference."
+/// certificate after the leaf whose path flag holds, with the leaf naming a reference." Document 02, No. 8: that rule reads "usable
+/// record that is not ignored".
 fn dane_passes(records: &[&[u8]], facts: &CertificateFacts, references: &[&[u8]]) -> bool {
     // "With zero certificates (allowed) neither check below passes"
     let Some((leaf, after)) = facts.certificates.split_first() else { return false };
@@ -652,7 +661,7 @@ fn dane_passes(records: &[&[u8]], facts: &CertificateFacts, references: &[&[u8]]
     let presented: Vec<&[u8]> =
         if facts.dns_ids.is_empty() { facts.common_name.into_iter().collect() } else { facts.dns_ids.clone() };
     let named = presented.iter().any(|p| references.iter().any(|r| matches(p, r)));
-    records.iter().filter(|r| is_usable(r)).any(|r| {
+    counting(records).iter().any(|r| {
         let (usage, selector, matching_type, data) = (r[0], r[1], r[2], &r[3..]);
         if usage == 3 {
             leaf.form(selector, matching_type) == data

@@ -3,6 +3,9 @@ use Rattle.certificates.proofs.Checks.{dane-laws}
 use Rattle.certificates.proofs.dane_passes.Statement.{statement}
 use Rattle.certificates.proofs.dane_passes.Tie as tie
 
+sha512-of-requires : tie.Need-sha512-of-requires
+sha512-of-requires c κs = search dane-laws
+
 set-match-requires : tie.Need-set-match-requires
 set-match-requires c κs = search dane-laws
 
@@ -31,6 +34,7 @@ pub dane-passes-spec : {M : Type 1} → statement M
 dane-passes-spec =
     tie.close
     (tie.spec
+    sha512-of-requires
     set-match-requires
     enum-told
     enum-told-2

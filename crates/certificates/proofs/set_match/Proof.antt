@@ -13,10 +13,10 @@ use Rattle.certificates.proofs.set_match.Statement.{statement}
 use Rattle.certificates.proofs.set_match.Tie as tie
 
 abbrev Inv-loop : tie.InvT-loop
-Inv-loop sizes records certificates lengths places digests paths n wanted₀ at₀ k₀ wanted at k = (k ≤ n) × (at ≤ length records) × (matchOf (any (passes false (certificatesOf certificates lengths places digests paths)) (cut records (numbers sizes))) (any (passes true (certificatesOf certificates lengths places digests paths)) (cut records (numbers sizes))) ≡ matchOf (any (passes false (certificatesOf certificates lengths places digests paths)) (cut (drop at records) (drop k (numbers sizes)))) (not wanted || any (passes true (certificatesOf certificates lengths places digests paths)) (cut (drop at records) (drop k (numbers sizes)))))
+Inv-loop found sizes records certificates lengths places digests paths n wanted₀ at₀ k₀ wanted at k = (k ≤ n) × (at ≤ length records) × (matchOf (any (passes found false (certificatesOf certificates lengths places digests paths)) (cut records (numbers sizes))) (any (passes found true (certificatesOf certificates lengths places digests paths)) (cut records (numbers sizes))) ≡ matchOf (any (passes found false (certificatesOf certificates lengths places digests paths)) (cut (drop at records) (drop k (numbers sizes)))) (not wanted || any (passes found true (certificatesOf certificates lengths places digests paths)) (cut (drop at records) (drop k (numbers sizes)))))
 
 abbrev μ-loop : tie.MeasureT-loop
-μ-loop sizes records certificates lengths places digests paths n wanted₀ at₀ k₀ wanted at k = n - k
+μ-loop found sizes records certificates lengths places digests paths n wanted₀ at₀ k₀ wanted at k = n - k
 
 count-requires : tie.Need-count-requires Inv-loop μ-loop
 count-requires c κs = search set-laws
