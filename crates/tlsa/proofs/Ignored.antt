@@ -16,6 +16,27 @@ use Rattle.tlsa.specs.Record.{usageOf, selectorOf, matchingTypeOf, short
 use Rattle.tlsa.specs.Answer.{setFits, needsOf}
 use Rattle.tlsa.specs.declared.Needs.{Needs}
 
+-- What counts, said apart from the definition's own words: `other-types-count`, `none-stronger` and, further on, `beside-sha512`.
+
+-- a usable record of type 2 with the usage and selector of r
+abbrev pub strongerThan : List ℕ → List ℕ → Bool
+strongerThan r s = usable s && eqb (matchingTypeOf s) 2 && eqb (usageOf s) (usageOf r) && eqb (selectorOf s) (selectorOf r)
+
+-- Without one in the set, a usable record counts.
+pub none-stronger : (set : List (List ℕ)) (r : List ℕ) → any (strongerThan r) set ≡ false → usable r ≡ true → counts set r ≡ true
+unfolding ignored isSha512
+none-stronger set r h u = rw (u, any-fails (strongerThan r) (isSha512 (usageOf r) (selectorOf r)) same set h) (ap not (and-false (eqb (matchingTypeOf r) 1)))
+  where
+    same : (x : List ℕ) → strongerThan r x ≡ false → isSha512 (usageOf r) (selectorOf r) x ≡ false
+    same x e = go (usable x) (eqb (usageOf x) (usageOf r)) (eqb (selectorOf x) (selectorOf r)) (eqb (matchingTypeOf x) 2) e
+      where
+        go : (a b c d : Bool) → (a && d && b && c) ≡ false → (a && b && c && d) ≡ false
+        go true true true true e = e
+        go true true true false e = refl
+        go true true false d e = refl
+        go true false c d e = refl
+        go false b c d e = refl
+
 -- A usable record that is not of matching type 1 counts: type 0 and type 2 always do.
 pub other-types-count : (set : List (List ℕ)) (r : List ℕ) → usable r ≡ true → (matchingTypeOf r ≡ 1 → ⊥) → counts set r ≡ true
 unfolding ignored
@@ -162,29 +183,10 @@ pub ignored-unchanged : (set : List (List ℕ)) (r : List ℕ) → ignored (with
 unfolding ignored
 ignored-unchanged set r = ap (λ (b : Bool). eqb (matchingTypeOf r) 1 && b) (kept-same set (isSha512 (usageOf r) (selectorOf r)) (λ x e. not-true (ignored set x) (and-right (usable x) (not (ignored set x)) (sha512-counts set x (sha512-is (usageOf r) (selectorOf r) x e)))))
 
--- What counts, with nothing but usable records in it. Beside a usable record of type 2 with its usage and selector, at whatever place, a record of type 1 does not count.
+-- Beside a usable record of type 2 with its usage and selector, at whatever place, a record of type 1 does not count.
 pub beside-sha512 : (xs : List (List ℕ)) (s : List ℕ) (ys : List (List ℕ)) (r : List ℕ) → usable s ≡ true → matchingTypeOf s ≡ 2 → usageOf s ≡ usageOf r → selectorOf s ≡ selectorOf r → matchingTypeOf r ≡ 1 → counts (xs ++ (s ∷ ys)) r ≡ false
 unfolding isSha512
 beside-sha512 xs s ys r u t e f z = rw (one-more xs s ys r, u, t, e, f, z, eq-eqb (usageOf r) (usageOf r) refl, eq-eqb (selectorOf r) (selectorOf r) refl, or-true (ignored (xs ++ ys) r)) (and-false (usable r))
-
--- a usable record of type 2 with the usage and selector of r
-abbrev pub strongerThan : List ℕ → List ℕ → Bool
-strongerThan r s = usable s && eqb (matchingTypeOf s) 2 && eqb (usageOf s) (usageOf r) && eqb (selectorOf s) (selectorOf r)
-
--- Without one in the set, a usable record counts.
-pub none-stronger : (set : List (List ℕ)) (r : List ℕ) → any (strongerThan r) set ≡ false → usable r ≡ true → counts set r ≡ true
-unfolding ignored isSha512
-none-stronger set r h u = rw (u, any-fails (strongerThan r) (isSha512 (usageOf r) (selectorOf r)) same set h) (ap not (and-false (eqb (matchingTypeOf r) 1)))
-  where
-    same : (x : List ℕ) → strongerThan r x ≡ false → isSha512 (usageOf r) (selectorOf r) x ≡ false
-    same x e = go (usable x) (eqb (usageOf x) (usageOf r)) (eqb (selectorOf x) (selectorOf r)) (eqb (matchingTypeOf x) 2) e
-      where
-        go : (a b c d : Bool) → (a && d && b && c) ≡ false → (a && b && c && d) ≡ false
-        go true true true true e = e
-        go true true true false e = refl
-        go true true false d e = refl
-        go true false c d e = refl
-        go false b c d e = refl
 
 -- The limits of a set hold without its ignored records, and in another order.
 all-without : (p q : List ℕ → Bool) (xs : List (List ℕ)) → all q xs ≡ true → all q (without p xs) ≡ true
