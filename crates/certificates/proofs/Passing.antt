@@ -26,11 +26,14 @@ use Rattle.certificates.specs.declared.Match.{Match}
 use Rattle.certificates.specs.declared.Sha512Pairs.{Sha512Pairs}
 use Rattle.certificates.proofs.Matching.{any-digests, on-path-digests}
 
--- what a usable record has: three bytes, usage 2 or 3, and data that fit the matching type
+-- what a usable record has: three bytes, usage 2 or 3, selector 0 or 1, and data that fit the matching type
 module _ (r : List ℕ) (h : usable r ≡ true) where
-  parts : (not (short r) && isUsage (usageOf r)) ≡ true
+  head-fits : (not (short r) && isUsage (usageOf r) && isSelector (selectorOf r)) ≡ true
   unfolding usable
-  parts = and-left (not (short r) && isUsage (usageOf r)) (isSelector (selectorOf r)) (and-left (not (short r) && isUsage (usageOf r) && isSelector (selectorOf r)) (dataFits (matchingTypeOf r) (length (dataOf r))) h)
+  head-fits = and-left (not (short r) && isUsage (usageOf r) && isSelector (selectorOf r)) (dataFits (matchingTypeOf r) (length (dataOf r))) h
+
+  parts : (not (short r) && isUsage (usageOf r)) ≡ true
+  parts = and-left (not (short r) && isUsage (usageOf r)) (isSelector (selectorOf r)) head-fits
 
   pub usable-3-bytes : 3 ≤ length r
   unfolding short
@@ -55,14 +58,12 @@ module _ (r : List ℕ) (h : usable r ≡ true) where
   usable-usage-3 other = eqb-true (usageOf r) 3 (rw (ne-eqb (usageOf r) 2 other) at (and-right (not (short r)) (isUsage (usageOf r)) parts))
 
   pub usable-selector-1 : (selectorOf r ≡ 0 → ⊥) → selectorOf r ≡ 1
-  unfolding usable isSelector
-  usable-selector-1 other =
-      eqb-true (selectorOf r) 1
-      (rw (ne-eqb (selectorOf r) 0 other) at (and-right (not (short r) && isUsage (usageOf r)) (isSelector (selectorOf r)) (and-left (not (short r) && isUsage (usageOf r) && isSelector (selectorOf r)) (dataFits (matchingTypeOf r) (length (dataOf r))) h)))
+  unfolding isSelector
+  usable-selector-1 other = eqb-true (selectorOf r) 1 (rw (ne-eqb (selectorOf r) 0 other) at (and-right (not (short r) && isUsage (usageOf r)) (isSelector (selectorOf r)) head-fits))
 
-  data-fit : dataFits (matchingTypeOf r) (length (dataOf r)) ≡ true
+  pub usable-data : dataFits (matchingTypeOf r) (length (dataOf r)) ≡ true
   unfolding usable
-  data-fit = and-right (not (short r) && isUsage (usageOf r) && isSelector (selectorOf r)) (dataFits (matchingTypeOf r) (length (dataOf r))) h
+  usable-data = and-right (not (short r) && isUsage (usageOf r) && isSelector (selectorOf r)) (dataFits (matchingTypeOf r) (length (dataOf r))) h
 
 -- the data of matching type 1 have 32 bytes, those of type 2 64
 digest-sizes : (t n : ℕ) → (t ≡ 0 → ⊥) → dataFits t n ≡ true → ((t ≡ 1) × (n ≡ 32)) ⊎ ((t ≡ 2) × (n ≡ 64))
@@ -77,7 +78,7 @@ digest-sizes t n z h = go (eqb t 1) refl (eqb t 2) refl (rw (ne-eqb t 0 z) at h)
 
 -- a usable record of matching type 2 has 67 bytes
 pub sha512-length : (r : List ℕ) → usable r ≡ true → matchingTypeOf r ≡ 2 → length r ≡ 67
-sha512-length r h t = go (digest-sizes (matchingTypeOf r) (length (dataOf r)) (λ z. omega arith) (data-fit r h))
+sha512-length r h t = go (digest-sizes (matchingTypeOf r) (length (dataOf r)) (λ z. omega arith) (usable-data r h))
   where
     go : ((matchingTypeOf r ≡ 1) × (length (dataOf r) ≡ 32)) ⊎ ((matchingTypeOf r ≡ 2) × (length (dataOf r) ≡ 64)) → length r ≡ 67
     go (inl w) = absurd (omega arith)
@@ -86,7 +87,7 @@ sha512-length r h t = go (digest-sizes (matchingTypeOf r) (length (dataOf r)) (�
 -- a usable record of matching type 1 or 2 is compared with a digest
 module _ (r : List ℕ) (h : usable r ≡ true) (z : matchingTypeOf r ≡ 0 → ⊥) where
   kinds : ((matchingTypeOf r ≡ 1) × (length (dataOf r) ≡ 32)) ⊎ ((matchingTypeOf r ≡ 2) × (length (dataOf r) ≡ 64))
-  kinds = digest-sizes (matchingTypeOf r) (length (dataOf r)) z (data-fit r h)
+  kinds = digest-sizes (matchingTypeOf r) (length (dataOf r)) z (usable-data r h)
 
   pub held-some : 1 ≤ length (take (length r - 3) (drop 3 r))
   held-some = rw (take-rest r 3) (go kinds)

@@ -1,7 +1,7 @@
 -- The references with the expanded next-hop (RFC 7672, 3.2.2; document 02, No. 3): with none they are what they were, where it adds nothing, and what it adds. Assumes nothing.
 use Prim.Native.Nat.{ℕ}
 use mathlib.Core.Path.{_≡_, refl, ap, _∙_}
-use mathlib.Core.Bool.{Bool, true, false, cond, _&&_, _||_}
+use mathlib.Core.Bool.{Bool, true, false, cond, _&&_, _||_, and-or-distrib-left}
 use mathlib.Core.List.{List, [], _∷_}
 use mathlib.Core.Option.{Option, none, some}
 use lib.Dec.{eqb}
@@ -86,12 +86,8 @@ match-either u w certs r = go (eqb (usageOf r) 3 && any (matchesCertificate r) (
 named-either : (u w : Bool) (set : List (List ℕ)) (certs : List Certificate) → oneMatches (u || w) set certs ≡ (oneMatches u set certs || oneMatches w set certs)
 named-either u w set certs = any-either (λ (r : List ℕ). counts set r && recordMatches u certs r) (λ (r : List ℕ). counts set r && recordMatches w certs r) (λ (r : List ℕ). counts set r && recordMatches (u || w) certs r) each set
   where
-    spread : (c a b : Bool) → (c && (a || b)) ≡ (c && a || c && b)
-    spread true a b = refl
-    spread false a b = refl
-
     each : (r : List ℕ) → (counts set r && recordMatches (u || w) certs r) ≡ (counts set r && recordMatches u certs r || counts set r && recordMatches w certs r)
-    each r = rw (match-either u w certs r) (spread (counts set r) (recordMatches u certs r) (recordMatches w certs r))
+    each r = rw (match-either u w certs r) (and-or-distrib-left (counts set r) (recordMatches u certs r) (recordMatches w certs r))
 
 -- with secure MX the leaf names one of the three where it names one of the first two, or one of the first and third
 names-either : (domain nextHop expanded : List ℕ) (p : Presented) → namesReference (references SecureMx domain nextHop (some expanded)) p ≡ (namesReference (references SecureMx domain nextHop none) p || namesReference (references SecureMx domain expanded none) p)

@@ -13,6 +13,7 @@ use Rattle.lists.proofs.Bools.{and-left}
 use Rattle.numbers.specs.Pieces.{cut, endOf}
 use Rattle.numbers.proofs.Pieces.{cut-next, cut-end, end-after, end-within}
 use Rattle.tlsa.specs.Record.{usageOf, selectorOf, matchingTypeOf, usable, isSha512, ignored, counts}
+use Rattle.tlsa.proofs.Ignored.{sha512-apart}
 use Rattle.certificates.specs.Facts.{Certificate}
 use Rattle.certificates.specs.Checks.{recordMatches, oneMatches}
 use Rattle.certificates.specs.Steps.{sha512Of, withRecord, ignoredBeside, passes}
@@ -46,17 +47,6 @@ module _ (set : List (List ℕ)) (r : List ℕ) where
 
 pub one-passes : (set : List (List ℕ)) (named : Bool) (certs : List Certificate) → any (passes (sha512Of set) named certs) set ≡ oneMatches named set certs
 one-passes set named certs = λ i. any (λ (r : List ℕ). passes-is set r named certs i) set
-
--- of a usage and selector: a usable record of type 2 that has them
-sha512-apart : (usage selector : ℕ) (r : List ℕ) → isSha512 usage selector r ≡ ((usable r && eqb (matchingTypeOf r) 2) && (eqb (usageOf r) usage && eqb (selectorOf r) selector))
-unfolding isSha512
-sha512-apart usage selector r = go (usable r) (eqb (usageOf r) usage) (eqb (selectorOf r) selector) (eqb (matchingTypeOf r) 2)
-  where
-    go : (a b c d : Bool) → (a && b && c && d) ≡ ((a && d) && (b && c))
-    go true true true d = sym (and-true d)
-    go true true false d = sym (and-false d)
-    go true false c d = sym (and-false d)
-    go false b c d = refl
 
 -- `is_sha512`: u is what `is_usable` gave
 pub sha512-other-length : (r : List ℕ) → (length r ≡ 67 → ⊥) → false ≡ (usable r && eqb (matchingTypeOf r) 2)

@@ -194,3 +194,16 @@ pub ruleset element-laws = (element-deep, element-none, element-order, element-i
 pub ruleset run-laws = (element-steps, run-end, run-fault, run-less, run-next, needs)
 
 pub ruleset contents-laws = (contents-primitive, contents-constructed, not-true, not-false, needs)
+
+opened-ends : (walk : Walker) (s : List ℕ) (at n : ℕ) (d : Header) (h : Head) → header at (drop at s) ≡ d → d ≡ Header.Opens h → opened (walkRun walk) s at d ≡ Walk.Past n → n ≡ h .end
+unfolding opened
+opened-ends walk s at n Header.NoHeader h i o e = never cc
+opened-ends walk s at n (Header.Opens k) h i o e =
+    let z : k ≡ h = cc in
+    contents-end walk s k (opens-bounds at (drop at s) k i .1 .0) (end-inside s at (Header.Opens k) k (sym i) refl) n e ∙ ap (λ (x : Head). x .end) z
+
+-- X.690's walk of an element that it accepts ends where the element's header says.
+pub walk-ends : (levels : ℕ) (s : List ℕ) (at n : ℕ) (h : Head) → header at (drop at s) ≡ Header.Opens h → walkElement levels s at ≡ Walk.Past n → n ≡ h .end
+unfolding walkElement
+walk-ends zero s at n h o e = never cc
+walk-ends (suc levels) s at n h o e = opened-ends (walkElement levels) s at n (header at (drop at s)) h refl o e

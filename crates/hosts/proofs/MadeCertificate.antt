@@ -16,13 +16,13 @@ use Rattle.numbers.specs.Pieces.{upTo}
 use Rattle.names.specs.Name.{isName, matchesName}
 use Rattle.names.proofs.Cover.{name-short}
 use Rattle.names.proofs.Exactly.{plain-exactly}
-use Rattle.tlsa.specs.Record.{usageOf, selectorOf, matchingTypeOf, dataOf, short, isUsage, isSelector, dataFits, usable}
+use Rattle.tlsa.specs.Record.{usageOf, selectorOf, matchingTypeOf, dataOf, dataFits, usable}
 use Rattle.certificates.specs.Facts.{Certificate, Presented}
 use Rattle.certificates.specs.Limits.{certificateFits, totalOf, chainKeepsLimits, commonNameFits, namesKeepLimits, keepsLimits}
 use Rattle.certificates.specs.Checks.{byType, compared, matchesCertificate, matchesOnPath, recordMatches, leafOf, afterLeaf, references, leafNames, namesReference, showsHost}
 use Rattle.certificates.specs.declared.Origin.{Origin}
 use Rattle.certificates.specs.declared.Origin.the-variants.{SecureMx, InsecureMx, NoMx}
-use Rattle.certificates.proofs.Passing.{matches-3, matches-2, usable-usage-2}
+use Rattle.certificates.proofs.Passing.{matches-3, matches-2, usable-usage-2, usable-data}
 use Rattle.hosts.proofs.Values.{sized, okCertificate, OkPresented}
 
 -- d where it has n bytes, else n zeros
@@ -56,10 +56,6 @@ compared-is s t d h = cond-same (eqb s 0) _ _ d (by d refl) (by (take (length d)
   where
     by : (k : List ℕ) → k ≡ d → cond (eqb t 0) k (cond (eqb t 1) (resized 32 d) (resized 64 d)) ≡ d
     by k e = chosen (eqb t 0) (eqb t 1) (eqb t 2) (leb 1 (length d)) (eqb (length d) 32) (eqb (length d) 64) d k (replicate 32 0) (replicate 64 0) e (not-both t) h
-
-usable-data : (r : List ℕ) → usable r ≡ true → dataFits (matchingTypeOf r) (length (dataOf r)) ≡ true
-unfolding usable
-usable-data r h = and-right (not (short r) && isUsage (usageOf r) && isSelector (selectorOf r)) (dataFits (matchingTypeOf r) (length (dataOf r))) h
 
 -- a usable record matches what is forged from its data
 forged-matches : (r : List ℕ) → usable r ≡ true → matchesCertificate r (forged (dataOf r)) ≡ true

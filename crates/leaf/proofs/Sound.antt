@@ -18,7 +18,8 @@ use Rattle.der.specs.Elements.{elements}
 use Rattle.der.specs.Walk as Der
 use Rattle.der.proofs.Heads.{opens-bounds, end-inside}
 use Rattle.der.proofs.Elements.{elements-end, elements-next}
-use Rattle.der.proofs.Walks.{element-steps, run-goes, run-stops}
+use Rattle.der.proofs.Walks.{element-steps, run-goes, run-stops, walk-ends}
+use Rattle.der.proofs.Longer.{opens-longer}
 use Rattle.x509.specs.declared.Part.{Part}
 use Rattle.x509.specs.declared.Name.{Name}
 use Rattle.x509.specs.declared.Noted.{Noted}
@@ -27,8 +28,6 @@ use Rattle.x509.specs.declared.Fields.{Fields}
 use Rattle.x509.specs.declared.RunWalk.{RunWalk}
 use Rattle.x509.specs.Walk.{walkCertificate}
 use Rattle.x509.specs.Found.{nothing, wholeOf, contentsOf, wholeAt, contentsAt, nameAt, alternativesAt, foundAt, fieldsOf}
-use Rattle.x509.proofs.Plain.{walk-ends}
-use Rattle.x509.proofs.Longer.{opens-longer}
 use Rattle.x509.proofs.Whole.{accepted-plain, fields-walk}
 use Rattle.x509.proofs.Notes.{Stands, Sequence, stands-inside, noted-opens}
 use Rattle.leaf.specs.declared.Reading.{Reading}

@@ -1,7 +1,7 @@
 -- Strongest digest only: which records of a set are ignored, for every set. Assumes nothing.
 use Prim.Native.Nat.{ℕ, suc, _≤_}
 use mathlib.Core.Path.{_≡_, refl, sym, ap, _∙_}
-use mathlib.Core.Bool.{Bool, true, false, not, cond, _&&_, _||_, and-false, and-comm, or-true, or-comm, or-assoc}
+use mathlib.Core.Bool.{Bool, true, false, not, cond, _&&_, _||_, and-true, and-false, and-comm, and-or-distrib-left, or-true, or-comm, or-assoc}
 use mathlib.Core.List.{List, [], _∷_, _++_}
 use mathlib.Core.Logic.{_⊎_, inl, inr}
 use native.Mathlib.Omega.{arith}
@@ -16,42 +16,41 @@ use Rattle.tlsa.specs.Record.{usageOf, selectorOf, matchingTypeOf, short
 use Rattle.tlsa.specs.Answer.{setFits, needsOf}
 use Rattle.tlsa.specs.declared.Needs.{Needs}
 
--- What counts, said apart from the definition's own words: `other-types-count`, `none-stronger` and, further on, `beside-sha512`.
+-- a usable record of matching type 2
+abbrev pub usableSha512 : List ℕ → Bool
+usableSha512 r = usable r && eqb (matchingTypeOf r) 2
+
+-- of a usage and selector: one that has them
+pub sha512-apart : (usage selector : ℕ) (r : List ℕ) → isSha512 usage selector r ≡ (usableSha512 r && (eqb (usageOf r) usage && eqb (selectorOf r) selector))
+unfolding isSha512
+sha512-apart usage selector r = go (usable r) (eqb (usageOf r) usage) (eqb (selectorOf r) selector) (eqb (matchingTypeOf r) 2)
+  where
+    go : (a b c d : Bool) → (a && b && c && d) ≡ (a && d && (b && c))
+    go true true true d = sym (and-true d)
+    go true true false d = sym (and-false d)
+    go true false c d = sym (and-false d)
+    go false b c d = refl
+
+-- What counts, said apart from the definition's own words: `none-stronger`, `other-types-count` and, further on, `beside-sha512`.
 
 -- a usable record of type 2 with the usage and selector of r
 abbrev pub strongerThan : List ℕ → List ℕ → Bool
-strongerThan r s = usable s && eqb (matchingTypeOf s) 2 && eqb (usageOf s) (usageOf r) && eqb (selectorOf s) (selectorOf r)
+strongerThan r s = usableSha512 s && (eqb (usageOf s) (usageOf r) && eqb (selectorOf s) (selectorOf r))
 
 -- Without one in the set, a usable record counts.
 pub none-stronger : (set : List (List ℕ)) (r : List ℕ) → any (strongerThan r) set ≡ false → usable r ≡ true → counts set r ≡ true
-unfolding ignored isSha512
-none-stronger set r h u = rw (u, any-fails (strongerThan r) (isSha512 (usageOf r) (selectorOf r)) same set h) (ap not (and-false (eqb (matchingTypeOf r) 1)))
-  where
-    same : (x : List ℕ) → strongerThan r x ≡ false → isSha512 (usageOf r) (selectorOf r) x ≡ false
-    same x e = go (usable x) (eqb (usageOf x) (usageOf r)) (eqb (selectorOf x) (selectorOf r)) (eqb (matchingTypeOf x) 2) e
-      where
-        go : (a b c d : Bool) → (a && d && b && c) ≡ false → (a && b && c && d) ≡ false
-        go true true true true e = e
-        go true true true false e = refl
-        go true true false d e = refl
-        go true false c d e = refl
-        go false b c d e = refl
+unfolding ignored
+none-stronger set r h u =
+    let none : any (isSha512 (usageOf r) (selectorOf r)) set ≡ false = (λ i. any (λ (s : List ℕ). sha512-apart (usageOf r) (selectorOf r) s i) set) ∙ h in
+    rw (u, none, and-false (eqb (matchingTypeOf r) 1))
 
 -- A usable record that is not of matching type 1 counts: type 0 and type 2 always do.
 pub other-types-count : (set : List (List ℕ)) (r : List ℕ) → usable r ≡ true → (matchingTypeOf r ≡ 1 → ⊥) → counts set r ≡ true
 unfolding ignored
 other-types-count set r h z = rw (h, ne-eqb (matchingTypeOf r) 1 z)
 
--- a usable record of matching type 2
-abbrev pub usableSha512 : List ℕ → Bool
-usableSha512 r = usable r && eqb (matchingTypeOf r) 2
-
 sha512-is : (usage selector : ℕ) (r : List ℕ) → isSha512 usage selector r ≡ true → usableSha512 r ≡ true
-unfolding isSha512
-sha512-is usage selector r h =
-    and-intro (usable r) (eqb (matchingTypeOf r) 2)
-    (and-left (usable r) (eqb (usageOf r) usage) (and-left (usable r && eqb (usageOf r) usage) (eqb (selectorOf r) selector) (and-left (usable r && eqb (usageOf r) usage && eqb (selectorOf r) selector) (eqb (matchingTypeOf r) 2) h)))
-    (and-right (usable r && eqb (usageOf r) usage && eqb (selectorOf r) selector) (eqb (matchingTypeOf r) 2) h)
+sha512-is usage selector r h = and-left (usableSha512 r) (eqb (usageOf r) usage && eqb (selectorOf r) selector) (sym (sha512-apart usage selector r) ∙ h)
 
 sha512-counts : (set : List (List ℕ)) (r : List ℕ) → usableSha512 r ≡ true → counts set r ≡ true
 sha512-counts set r h =
@@ -102,11 +101,7 @@ any-one-more p (x ∷ xs) s ys = rw (any-one-more p xs s ys) (sym (or-assoc (p x
 -- changes.
 pub one-more : (xs : List (List ℕ)) (s : List ℕ) (ys : List (List ℕ)) (r : List ℕ) → ignored (xs ++ (s ∷ ys)) r ≡ (ignored (xs ++ ys) r || eqb (matchingTypeOf r) 1 && isSha512 (usageOf r) (selectorOf r) s)
 unfolding ignored
-one-more xs s ys r = rw (any-one-more (isSha512 (usageOf r) (selectorOf r)) xs s ys) (spread (eqb (matchingTypeOf r) 1) (any (isSha512 (usageOf r) (selectorOf r)) (xs ++ ys)) (isSha512 (usageOf r) (selectorOf r) s))
-  where
-    spread : (a b c : Bool) → (a && (b || c)) ≡ (a && b || a && c)
-    spread true b c = refl
-    spread false b c = refl
+one-more xs s ys r = rw (any-one-more (isSha512 (usageOf r) (selectorOf r)) xs s ys) (and-or-distrib-left (eqb (matchingTypeOf r) 1) (any (isSha512 (usageOf r) (selectorOf r)) (xs ++ ys)) (isSha512 (usageOf r) (selectorOf r) s))
 
 -- The order of a set's records does not matter: any two that stand side by side may be exchanged.
 pub order : (xs : List (List ℕ)) (r s : List ℕ) (ys : List (List ℕ)) (x : List ℕ) → ignored (xs ++ (r ∷ s ∷ ys)) x ≡ ignored (xs ++ (s ∷ r ∷ ys)) x
@@ -185,8 +180,7 @@ ignored-unchanged set r = ap (λ (b : Bool). eqb (matchingTypeOf r) 1 && b) (kep
 
 -- Beside a usable record of type 2 with its usage and selector, at whatever place, a record of type 1 does not count.
 pub beside-sha512 : (xs : List (List ℕ)) (s : List ℕ) (ys : List (List ℕ)) (r : List ℕ) → usable s ≡ true → matchingTypeOf s ≡ 2 → usageOf s ≡ usageOf r → selectorOf s ≡ selectorOf r → matchingTypeOf r ≡ 1 → counts (xs ++ (s ∷ ys)) r ≡ false
-unfolding isSha512
-beside-sha512 xs s ys r u t e f z = rw (one-more xs s ys r, u, t, e, f, z, eq-eqb (usageOf r) (usageOf r) refl, eq-eqb (selectorOf r) (selectorOf r) refl, or-true (ignored (xs ++ ys) r)) (and-false (usable r))
+beside-sha512 xs s ys r u t e f z = rw (one-more xs s ys r, sha512-apart (usageOf r) (selectorOf r) s, u, t, e, f, z, eq-eqb (usageOf r) (usageOf r) refl, eq-eqb (selectorOf r) (selectorOf r) refl, or-true (ignored (xs ++ ys) r)) (and-false (usable r))
 
 -- The limits of a set hold without its ignored records, and in another order.
 all-without : (p q : List ℕ → Bool) (xs : List (List ℕ)) → all q xs ≡ true → all q (without p xs) ≡ true

@@ -2,7 +2,6 @@ pub mod Table
 pub mod Walks
 pub mod Parts
 pub mod Plain
-pub mod Longer
 pub mod Past
 pub mod Whole
 pub mod Leads

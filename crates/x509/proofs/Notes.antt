@@ -22,7 +22,7 @@ use Rattle.x509.specs.Fields.{mayEnd}
 use Rattle.x509.specs.Walk.{ElementWalker, noted, andThen, atEnd, runFrom, walkRun, walkElement, noneNoted, walkCertificate}
 use Rattle.x509.proofs.Walks.{fault-past}
 use Rattle.x509.proofs.Plain.{run-apart, plain-element}
-use Rattle.x509.proofs.Longer.{opens-longer, walk-longer}
+use Rattle.der.proofs.Longer.{opens-longer, walk-longer}
 use Rattle.x509.proofs.Whole.{whole}
 use Rattle.x509.proofs.Past.{Left, Passed, opened-passed, element-passed}
 use Rattle.x509.proofs.Leads.{loose, due, due-on, dueIn, isKey, leading-is, tag-of}

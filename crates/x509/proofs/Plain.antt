@@ -26,19 +26,6 @@ use Rattle.x509.proofs.Walks.{fault-past, same-end}
 pub run-apart : {A : Type 0} (o : ℕ) (m : Noted) → RunWalk.Fault o ≡ RunWalk.Past m → A
 run-apart o m e = never cc
 
-opened-ends : (walk : Der.Walker) (s : List ℕ) (at n : ℕ) (d : Header) (h : Head) → header at (drop at s) ≡ d → d ≡ Header.Opens h → Der.opened (Der.walkRun walk) s at d ≡ Walk.Past n → n ≡ h .end
-unfolding Der.opened
-opened-ends walk s at n Header.NoHeader h i o e = never cc
-opened-ends walk s at n (Header.Opens k) h i o e =
-    let z : k ≡ h = cc in
-    contents-end walk s k (opens-bounds at (drop at s) k i .1 .0) (end-inside s at (Header.Opens k) k (sym i) refl) n e ∙ ap (λ (x : Head). x .end) z
-
--- X.690's walk of an element that it accepts ends where the element's header says.
-pub walk-ends : (levels : ℕ) (s : List ℕ) (at n : ℕ) (h : Head) → header at (drop at s) ≡ Header.Opens h → Der.walkElement levels s at ≡ Walk.Past n → n ≡ h .end
-unfolding Der.walkElement
-walk-ends zero s at n h o e = never cc
-walk-ends (suc levels) s at n h o e = opened-ends (Der.walkElement levels) s at n (header at (drop at s)) h refl o e
-
 -- a walker of elements that passes only what a walker by X.690 passes, and ends where that one does
 unfoldable pub Plain : ElementWalker → Der.Walker → Type 0
 Plain walk free = (p : Place) (n : Noted) (s : List ℕ) (at next : ℕ) (q : Place) (m : Noted) → walk p n s at ≡ ElementWalk.Past next q m → free s at ≡ Walk.Past next

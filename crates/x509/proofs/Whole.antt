@@ -28,7 +28,7 @@ use Rattle.x509.specs.Walk.{RunWalker, noted, atEnd, walkRun, metBy, met
 use Rattle.x509.specs.Found.{foundAt, fieldsBy, fieldsOf}
 use Rattle.x509.proofs.Walks.{Steps, element-steps, run-over, run-stops, run-goes}
 use Rattle.x509.proofs.Plain.{run-apart, plain-element}
-use Rattle.x509.proofs.Longer.{opens-longer}
+use Rattle.der.proofs.Longer.{opens-longer}
 use Rattle.x509.specs.declared.Field.{Field}
 use Rattle.x509.proofs.Past.{Left, Passed, element-passed}
 
