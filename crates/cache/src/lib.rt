@@ -1,5 +1,7 @@
 // The policy cache: a table of entries and a buffer of policy texts, both lent by the relay. The work is done by functions on one entry by value; of the functions here
 // only `scan` and `put` touch the lent table. The two calls stand in `tweedstork`.
+#![tactic(auto)]
+
 ghost use Rattle.std.specs.Prelude.{◌≡◌, true, false, ◌≤◌, length, set, take, drop};
 ghost use Rattle.lists.specs.Equal.{same_text};
 ghost use Rattle.lists.specs.Span.{trimmed_length};

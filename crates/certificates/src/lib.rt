@@ -1,4 +1,6 @@
 // Certificate facts: their limits, and what DANE and MTA-STS ask of them (RFC 7672, RFC 8461).
+#![tactic(auto)]
+
 ghost use Rattle.std.specs.Prelude.{◌≡◌, true, false, ◌&&◌, [], ◌∷◌, ◌+◌, ◌*◌, ◌-◌, ◌<◌, ◌≤◌, eqb, leb, length, get_or, take, drop};
 ghost use Rattle.lists.specs.Bytes.{all, any};
 ghost use Rattle.lists.specs.Equal.{same_bytes};

@@ -1,4 +1,6 @@
 // Clock readings, lifetimes, and the time that a policy has left.
+#![tactic(auto)]
+
 ghost use Rattle.std.specs.Prelude.{◌≡◌, ◌+◌, ◌≤◌, pos, ◌-ℤ◌};
 ghost use Rattle.clock.specs.Clock.{longest, lifetime_of, latest, is_reading, clock_refusal, is_live, time_left_answer, time_left_number};
 

@@ -1,4 +1,6 @@
 // DER (X.690) by places: the header of an element.
+#![tactic(auto)]
+
 ghost use Rattle.std.specs.Prelude.{◌≡◌, ◌<◌, take, drop};
 ghost use Rattle.der.specs.Header.{long_size, header, is_constructed};
 ghost use Rattle.der.specs.Walk.{walk_run, walk_element, walk_contents};

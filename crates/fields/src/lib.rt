@@ -1,4 +1,6 @@
 // Blanks, and the names of fields: shared by the TXT record and the policy.
+#![tactic(auto)]
+
 ghost use Rattle.std.specs.Prelude.{◌≡◌, ◌+◌, ◌≤◌, length, drop};
 ghost use Rattle.lists.specs.Span.{span_of};
 ghost use Rattle.lists.specs.Words.{eight_at, marks};

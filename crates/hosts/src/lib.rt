@@ -1,4 +1,6 @@
 // Judging a host: what its facts come to, and what to learn next.
+#![tactic(auto)]
+
 ghost use Rattle.std.specs.Prelude.{◌≡◌};
 ghost use Rattle.hosts.specs.Arguments.{arguments_of};
 ghost use Rattle.hosts.specs.Call.{host_answer};

@@ -1,4 +1,6 @@
 // Judging a host by a leaf certificate that we read ourselves.
+#![tactic(auto)]
+
 ghost use Rattle.std.specs.Prelude.{◌≡◌, [], ◌∷◌, ◌++◌, ◌+◌, ◌<◌, ◌≤◌, ◌^◌, length, get_or, take, drop};
 ghost use Rattle.numbers.specs.Numbers.{numbers, written};
 ghost use Rattle.certificates.specs.Limits.{chain_fits};

@@ -1,4 +1,6 @@
 // The leaf certificate: what is read of it, and the places of its names.
+#![tactic(auto)]
+
 ghost use Rattle.std.specs.Prelude.{◌≡◌, [], ◌∷◌, ◌++◌, ◌<◌, ◌≤◌, ◌-◌, ◌*◌, ◌^◌, ◌%◌, length, drop};
 ghost use Rattle.lists.specs.Write.{wrote_front};
 ghost use Rattle.leaf.specs.Names.{dns_ids_from, dns_ids_of, first_of};

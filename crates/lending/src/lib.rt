@@ -1,5 +1,7 @@
 // The cache's two calls for a Rattle program that holds its table by value: each lends the table's first entries, as many as it is told, for the call.
 // The library has no need of them; the cases of `vectors` do, for tables of one entry more and fewer than a cache has too.
+#![tactic(auto)]
+
 ghost use Rattle.std.specs.Prelude.{◌≡◌, ◌++◌, ◌≤◌, take, drop};
 ghost use Rattle.cache.specs.Store.{store_answer, table_after, texts_after};
 ghost use Rattle.cache.specs.Lookup.{lookup_answer};

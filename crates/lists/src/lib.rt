@@ -1,4 +1,6 @@
 // Bytes and lists of bytes, as the crates above share them.
+#![tactic(auto)]
+
 ghost use Rattle.std.specs.Prelude.{◌≡◌, cond, true, ◌+◌, ◌/◌, ◌<◌, ◌≤◌, leb, length, take, drop};
 ghost use Rattle.std.specs.Int.Count.{count_trailing_zeros};
 ghost use Rattle.lists.specs.Bytes.{within, is_bytes};

@@ -1,4 +1,6 @@
 // The hosts of a message: which of them is tried next, or what the delivery has come to.
+#![tactic(auto)]
+
 ghost use Rattle.std.specs.Prelude.{◌≡◌, ◌<◌, ◌≤◌, length, take};
 ghost use Rattle.numbers.specs.Numbers.{numbers};
 ghost use Rattle.messages.specs.Hosts.{is_host_verdict, no_host, message_answer, hosts_answer, lists_answer, next_host};

@@ -1,4 +1,6 @@
 // Comparing two texts; names, and the patterns that match them.
+#![tactic(auto)]
+
 ghost use Rattle.std.specs.Prelude.{true, false, ◌&&◌, List, ◌≡◌, ℕ, ◌+◌, ◌<◌, ◌≤◌, eqb, length, get_or, drop};
 ghost use Rattle.lists.specs.Bytes.{any};
 ghost use Rattle.lists.specs.Equal.{same_text};

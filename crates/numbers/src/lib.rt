@@ -1,4 +1,6 @@
 // Lists of four-byte numbers, the highest byte first, the pieces that such a list of lengths cuts, and the bytes of an eight-byte number.
+#![tactic(auto)]
+
 ghost use Rattle.std.specs.Prelude.{◌≡◌, cond, ◌&&◌, ◌*◌, ◌+◌, ◌%◌, ◌<◌, ltb, length, get_or, take, drop};
 ghost use Rattle.lists.specs.Bytes.{all};
 ghost use Rattle.numbers.specs.Numbers.{numbers, is_whole, at_most, eight};

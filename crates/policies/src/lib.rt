@@ -1,4 +1,6 @@
 // The policy body (RFC 8461, 3.2).
+#![tactic(auto)]
+
 ghost use Rattle.std.specs.Prelude.{◌≡◌, true, ◌||◌, ◌+◌, ◌<◌, ◌≤◌, length, drop};
 ghost use Rattle.lists.specs.Bytes.{all};
 ghost use Rattle.lists.specs.Span.{span_of};

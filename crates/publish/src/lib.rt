@@ -1,4 +1,6 @@
 // What a domain publishes (RFC 8461, 3.1 and 3.2): the TXT text and the policy body, and rewriting a body.
+#![tactic(auto)]
+
 ghost use Rattle.std.specs.Prelude.{◌≡◌, true, ◌+◌, ◌<◌, ◌≤◌, leb, length};
 ghost use Rattle.lists.specs.Bytes.{within, all};
 ghost use Rattle.lists.specs.Text.{text};

@@ -1,5 +1,7 @@
 // A reader keeps its place over the lent certificate bytes and moves element by element. Its functions are thin: the work is
 // that of `step_at` and `past_at`, on a plain slice and a number.
+#![tactic(auto)]
+
 ghost use Rattle.std.specs.Prelude.{◌≡◌};
 ghost use Rattle.reader.specs.Read.{step_at, past_at};
 

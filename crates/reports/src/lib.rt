@@ -1,4 +1,6 @@
 // TLS reports (RFC 8460): the counts of a day's sessions, and the summary of a report.
+#![tactic(auto)]
+
 ghost use Rattle.std.specs.Prelude.{◌≡◌, true, ◌+◌, ◌<◌, ◌≤◌, leb, length};
 ghost use Rattle.writing.specs.Decimal.{decimal};
 ghost use Rattle.writing.specs.Over.{over};

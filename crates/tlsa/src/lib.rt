@@ -1,4 +1,6 @@
 // TLSA answers: their records, what a set of them needs, and the names at which they are asked for (RFC 6698, RFC 7672).
+#![tactic(auto)]
+
 ghost use Rattle.std.specs.Prelude.{◌≡◌, ◌-◌};
 ghost use Rattle.lists.specs.Bytes.{any};
 ghost use Rattle.tlsa.specs.Record.{short, is_usage, is_selector, data_fits, usable};

@@ -1,4 +1,6 @@
 // The C boundary: each call takes numbers, and slices of bytes or entries, of any contents, and answers for all of them. `include/tweedstork.h` declares them.
+#![tactic(auto)]
+
 ghost use Rattle.std.specs.Prelude.{true, ◌≡◌, [], length};
 ghost use Rattle.lists.specs.Bytes.{is_bytes};
 ghost use Rattle.cache.specs.Store.{store_answer, table_after, texts_after};
@@ -21,16 +23,14 @@ use txt::TxtAnswer;
 use writing::WriteAnswer;
 
 // The version of the archive; a C program holds it against the header's.
-#[unsafe(no_mangle)]
-pub extern "C" fn tweedstork_version() -> u64
+pub fn tweedstork_version() -> u64
     ensures { result ≡ version }
 {
     10800
 }
 
 // Which MTA-STS record do these TXT RDATAs hold, and what is its id?
-#[unsafe(no_mangle)]
-pub extern "C" fn tweedstork_read_txt(rdatas: &[u8], lengths: &[u8], output: &mut [u8]) -> TxtAnswer
+pub fn tweedstork_read_txt(rdatas: &[u8], lengths: &[u8], output: &mut [u8]) -> TxtAnswer
     ensures value { result ≡ read_txt rdatas.now lengths.now (length output.old) }
     ensures output_after { output.new ≡ wrote_txt rdatas.now lengths.now output.old }
 {
@@ -38,8 +38,7 @@ pub extern "C" fn tweedstork_read_txt(rdatas: &[u8], lengths: &[u8], output: &mu
 }
 
 // What does the body of an MTA-STS policy say?
-#[unsafe(no_mangle)]
-pub extern "C" fn tweedstork_read_policy(body: &[u8]) -> PolicyAnswer
+pub fn tweedstork_read_policy(body: &[u8]) -> PolicyAnswer
     ensures { result ≡ policy_answer body.now }
 {
     policies::read_policy(body)
@@ -56,8 +55,7 @@ fn is_bytes(s: &[u8]) -> bool
 }
 
 // May the relay deliver to this host, and how? Or what must it learn next?
-#[unsafe(no_mangle)]
-pub extern "C" fn tweedstork_judge_host<'a>(
+pub fn tweedstork_judge_host<'a>(
     clock: u64,
     next_hop: &'a [u8],
     expanded_next_hop_given: u64,
@@ -147,8 +145,7 @@ pub extern "C" fn tweedstork_judge_host<'a>(
 }
 
 // Which DNS-IDs and which common name does this certificate have, and where does its public key info stand?
-#[unsafe(no_mangle)]
-pub extern "C" fn tweedstork_read_certificate(
+pub fn tweedstork_read_certificate(
     certificate: &[u8],
     places: &mut [u8],
 ) -> CertificateAnswer
@@ -159,8 +156,7 @@ pub extern "C" fn tweedstork_read_certificate(
 }
 
 // May the relay deliver to this host, and how? Or what must it learn next? The leaf's DNS-IDs, common name and key place are read of the leaf itself.
-#[unsafe(no_mangle)]
-pub extern "C" fn tweedstork_judge_host_certificate<'a>(
+pub fn tweedstork_judge_host_certificate<'a>(
     clock: u64,
     next_hop: &'a [u8],
     expanded_next_hop_given: u64,
@@ -229,8 +225,7 @@ pub extern "C" fn tweedstork_judge_host_certificate<'a>(
 }
 
 // Which of a message's hosts decides?
-#[unsafe(no_mangle)]
-pub extern "C" fn tweedstork_next_host(
+pub fn tweedstork_next_host(
     mx_lookup: u64,
     preferences: &[u8],
     verdicts: &[u8],
@@ -248,8 +243,7 @@ pub extern "C" fn tweedstork_next_host(
 }
 
 // Keeps this domain's policy, with its id and the call's clock as that of the fetch.
-#[unsafe(no_mangle)]
-pub extern "C" fn tweedstork_cache_store<'a, 'b, 'c>(
+pub fn tweedstork_cache_store<'a, 'b, 'c>(
     clock: u64,
     domain: &'a [u8],
     id: &'a [u8],
@@ -276,8 +270,7 @@ pub extern "C" fn tweedstork_cache_store<'a, 'b, 'c>(
 }
 
 // Which live policy does the table hold for this domain?
-#[unsafe(no_mangle)]
-pub extern "C" fn tweedstork_cache_lookup(
+pub fn tweedstork_cache_lookup(
     clock: u64,
     domain: &[u8],
     table: &[CacheEntry],
@@ -292,8 +285,7 @@ pub extern "C" fn tweedstork_cache_lookup(
 }
 
 // The text of the TXT record that says which policy a domain has.
-#[unsafe(no_mangle)]
-pub extern "C" fn tweedstork_write_txt(id: &[u8], output: &mut [u8]) -> WriteAnswer
+pub fn tweedstork_write_txt(id: &[u8], output: &mut [u8]) -> WriteAnswer
     ensures value { result ≡ write_txt_answer id.now (length output.old) }
     ensures output_after { output.new ≡ write_txt_output id.now output.old }
 {
@@ -301,8 +293,7 @@ pub extern "C" fn tweedstork_write_txt(id: &[u8], output: &mut [u8]) -> WriteAns
 }
 
 // The body of a policy with this mode, this lifetime and these patterns.
-#[unsafe(no_mangle)]
-pub extern "C" fn tweedstork_write_policy(
+pub fn tweedstork_write_policy(
     mode: u64,
     lifetime: u64,
     patterns: &[u8],
@@ -316,8 +307,7 @@ pub extern "C" fn tweedstork_write_policy(
 }
 
 // The body of the policy that a body says, and no other field of it.
-#[unsafe(no_mangle)]
-pub extern "C" fn tweedstork_rewrite_policy(body: &[u8], output: &mut [u8]) -> WriteAnswer
+pub fn tweedstork_rewrite_policy(body: &[u8], output: &mut [u8]) -> WriteAnswer
     ensures value { result ≡ rewrite_answer body.now (length output.old) }
     ensures output_after { output.new ≡ rewrite_output body.now output.old }
 {

@@ -1,4 +1,6 @@
 // The TXT record (RFC 8461, 3.1).
+#![tactic(auto)]
+
 ghost use Rattle.std.specs.Prelude.{◌≡◌, true, [], ◌∷◌, ◌++◌, ◌+◌, ◌<◌, ◌≤◌, length, get_or, drop};
 ghost use Rattle.lists.specs.Equal.{same_bytes};
 ghost use Rattle.lists.specs.Span.{span_of, begins};

@@ -1,5 +1,7 @@
 // A certificate of the usual shape, seen field by field and without a walk over the table: one attribute in each set of the subject, no unique ids, and dNSNames alone in
 // GeneralNames. Where a function here does not see its part of that shape it says so, and the walk decides.
+#![tactic(auto)]
+
 ghost use Rattle.std.specs.Prelude.{◌≡◌, true, cond};
 ghost use Rattle.x509.specs.Found.{fields_of};
 ghost use Rattle.usual.specs.Shape.{end_of, FreeSeen, ExtensionEnds, AttributeEnds, AttributeSeen, SetSeen, SubjectSeen, NamesEnd, AltNamesEnd, AltNameEnds, ExtensionSeen, ExtensionsSeen, ListSeen, TailSeen, VersionSeen, SerialSeen, MiddleSeen, SubjectOnSeen, TbsSeen, FieldsSeen, CertificateSeen};

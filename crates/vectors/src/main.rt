@@ -1,5 +1,7 @@
 // Runs the cases of the files that `main` names: a case is a line with a call of the library and the answer that it must
 // give. Writes a line for each case that fails, and last how many passed and how many failed.
+#![tactic(auto)]
+
 mod calls;
 mod facts;
 mod history;

@@ -1,4 +1,6 @@
 // The verdicts on a host.
+#![tactic(auto)]
+
 ghost use Rattle.std.specs.Prelude.{◌≡◌};
 ghost use Rattle.verdicts.specs.Verdicts.{is_delivery, is_next_host, is_verdict};
 

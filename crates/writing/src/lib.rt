@@ -1,4 +1,6 @@
 // What the calls share that write into lent memory: texts and numbers in decimal at a place, and the answer.
+#![tactic(auto)]
+
 ghost use Rattle.std.specs.Prelude.{◌≡◌, ◌<◌, [], ◌∷◌, length};
 ghost use Rattle.writing.specs.Answer.{refusal, success};
 ghost use Rattle.writing.specs.Decimal.{digit, decimal};

@@ -1,4 +1,6 @@
 // RFC 5280's fields of a certificate, and the walk over them.
+#![tactic(auto)]
+
 ghost use Rattle.std.specs.Prelude.{◌≡◌, cond, ◌≤◌, length};
 ghost use Rattle.x509.specs.Fields.{anything, tagged, holds, or_else, noting, string_name, built_name, expects, may_end, is_of, subject_alt_name, common_name};
 ghost use Rattle.x509.specs.Walk.{noted, met, passing, leaving, walk_run, walk_element};
