@@ -9,7 +9,7 @@ pub const LATEST_READING: u64 = 253402300799;
 pub const LONGEST_LIFETIME: u64 = 31557600;
 
 // A clock reading: seconds since 1970.
-#[derive(Drop)]
+#[derive(Clone, Copy)]
 pub struct Reading(pub u64);
 
 // A lifetime: for how many seconds after its fetch a policy lasts.

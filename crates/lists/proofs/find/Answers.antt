@@ -1,0 +1,25 @@
+-- `lists::find` meets its contract. Assumes nothing.
+use Prim.Native.Nat.{◌-◌}
+use Rattle.lists.proofs.Split.{find_laws}
+use Rattle.lists.proofs.find.Goals as goal
+
+pub loop-i-init : goal.loop-i-init
+loop-i-init c = search find_laws
+
+pub bounds-s-i : goal.bounds-s-i
+bounds-s-i c = search find_laws
+
+pub returns-then-s-i : goal.returns-then-s-i
+returns-then-s-i c = search find_laws
+
+pub overflow_add-i : goal.overflow_add-i
+overflow_add-i c = search find_laws
+
+pub loop-i-smaller : goal.loop-i-smaller
+loop-i-smaller c = search find_laws
+
+pub loop-i-preserved : goal.loop-i-preserved
+loop-i-preserved c = search find_laws
+
+pub returns : goal.returns
+returns c = search find_laws
