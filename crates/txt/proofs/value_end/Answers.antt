@@ -1,0 +1,40 @@
+-- `txt::value_end` meets its contract. Assumes nothing.
+use Prim.Native.Nat.{◌-◌}
+use Rattle.lists.proofs.Marks.{marks_laws}
+use Rattle.txt.proofs.value_end.Goals as goal
+
+pub overflow_add-i : goal.overflow_add-i
+overflow_add-i c = search marks_laws
+
+pub loop-i-init : goal.loop-i-init
+loop-i-init c = search marks_laws
+
+pub overflow_sub-t : goal.overflow_sub-t
+overflow_sub-t c = search marks_laws
+
+pub mark_non_values-m-requires : goal.mark_non_values-m-requires
+mark_non_values-m-requires c = search marks_laws
+
+pub bytes_below-before-requires : goal.bytes_below-before-requires
+bytes_below-before-requires c = search marks_laws
+
+pub overflow_add-result : goal.overflow_add-result
+overflow_add-result c = search marks_laws
+
+pub returns-then-m-ne0 : goal.returns-then-m-ne0
+returns-then-m-ne0 c = search marks_laws
+
+pub overflow_add-i-in-loop-i : goal.overflow_add-i-in-loop-i
+overflow_add-i-in-loop-i c = search marks_laws
+
+pub loop-i-smaller : goal.loop-i-smaller
+loop-i-smaller c = search marks_laws
+
+pub loop-i-preserved : goal.loop-i-preserved
+loop-i-preserved c = search marks_laws
+
+pub value_from-requires : goal.value_from-requires
+value_from-requires c = search marks_laws
+
+pub returns : goal.returns
+returns c = search marks_laws

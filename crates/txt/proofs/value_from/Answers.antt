@@ -1,0 +1,28 @@
+-- `txt::value_from` meets its contract. Assumes nothing.
+use Prim.Native.Nat.{◌-◌}
+use Rattle.lists.proofs.Span.{past_laws}
+use Rattle.txt.proofs.value_from.Goals as goal
+
+pub loop-i-init : goal.loop-i-init
+loop-i-init c = search past_laws
+
+pub bounds-t-i : goal.bounds-t-i
+bounds-t-i c = search past_laws
+
+pub is_value_byte-good-requires : goal.is_value_byte-good-requires
+is_value_byte-good-requires c = search past_laws
+
+pub returns-then-not-good : goal.returns-then-not-good
+returns-then-not-good c = search past_laws
+
+pub overflow_add-i : goal.overflow_add-i
+overflow_add-i c = search past_laws
+
+pub loop-i-smaller : goal.loop-i-smaller
+loop-i-smaller c = search past_laws
+
+pub loop-i-preserved : goal.loop-i-preserved
+loop-i-preserved c = search past_laws
+
+pub returns : goal.returns
+returns c = search past_laws
