@@ -25,7 +25,7 @@ pub const BUFFER: usize = 65536;
 
 // An entry: domain and id filled up with zeros, the clock of the fetch, and the length of the policy's text.
 #[repr(C)]
-#[derive(Drop)]
+#[derive(Clone, Copy)]
 pub struct CacheEntry {
     pub domain: [u8; 253],
     pub id: [u8; 32],
@@ -36,7 +36,7 @@ pub struct CacheEntry {
 // The answer to a lookup: on 15 the place of the policy's text in the buffer, the clock of its fetch, and its id, filled up with zeros; else zeros. The length is
 // that of an output, which the call has not.
 #[repr(C)]
-#[derive(Drop)]
+#[derive(Clone, Copy)]
 pub struct CacheAnswer {
     pub number: u64,
     pub length: u64,
@@ -48,7 +48,7 @@ pub struct CacheAnswer {
 }
 
 // What an entry is at a clock.
-#[derive(Drop)]
+#[derive(Clone, Copy)]
 pub enum State {
     Empty,
     Stale,
@@ -57,7 +57,7 @@ pub enum State {
 
 // What is found so far in a table: the rank of an entry (0 the domain's own and live, 1 its own and stale, 2 empty, 3 another's and stale, 4 none), its position, and
 // what a lookup answers of it. Ranks 0, 1 and 2 end the search: the first own entry counts, live or stale, and so does the first empty one.
-#[derive(Drop)]
+#[derive(Clone, Copy)]
 pub struct Found {
     pub rank: u64,
     pub place: usize,
@@ -67,7 +67,7 @@ pub struct Found {
 }
 
 // What a store is to do: the answer's number, and which entry goes where; outside the table where nothing is stored.
-#[derive(Drop)]
+#[derive(Clone, Copy)]
 pub struct Plan {
     pub number: u64,
     pub place: usize,

@@ -14,7 +14,7 @@ ghost use Rattle.certificates.specs.Steps.{digest_start, digest_on_path, any_pla
 ghost use Rattle.certificates.specs.Checks.{compared, matches_certificate, matches_on_path, leaf_of, after_leaf, further_reference, references, leaf_names, dane_passes, shows_host};
 
 // The origin of the host list: secure MX, insecure MX, or no MX, where the host is the next-hop itself.
-#[derive(Drop)]
+#[derive(Clone, Copy)]
 pub enum Origin {
     SecureMx,
     InsecureMx,
@@ -22,7 +22,7 @@ pub enum Origin {
 }
 
 // How a record, or a set of them, matches the certificates: without names, only with the leaf naming a reference, or not.
-#[derive(Drop)]
+#[derive(Clone, Copy)]
 enum Match {
     Unnamed,
     Named,
@@ -30,7 +30,7 @@ enum Match {
 }
 
 // Pairs of a usage, DANE-TA (2) or DANE-EE (3), and a selector, certificate (0) or key info (1): whether a set has a usable SHA-512 record of each.
-#[derive(Drop)]
+#[derive(Clone, Copy)]
 struct Sha512Pairs {
     ta_certificate: bool,
     ta_key: bool,

@@ -13,11 +13,11 @@ pub const LONGEST_LIFETIME: u64 = 31557600;
 pub struct Reading(pub u64);
 
 // A lifetime: for how many seconds after its fetch a policy lasts.
-#[derive(Drop)]
+#[derive(Clone, Copy)]
 pub struct Lifetime(pub u64);
 
 // The seconds that a policy has left, negative once it is stale by a second; or the refusal of a clock above the latest reading.
-#[derive(Drop)]
+#[derive(Clone, Copy)]
 pub enum TimeLeft {
     Seconds(i64),
     BadClock,

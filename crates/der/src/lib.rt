@@ -6,14 +6,14 @@ ghost use Rattle.der.specs.Header.{long_size, header, is_constructed};
 ghost use Rattle.der.specs.Walk.{walk_run, walk_element, walk_contents};
 
 // A length of contents that lie inside what holds them.
-#[derive(Drop)]
+#[derive(Clone, Copy)]
 pub enum Size {
     Bytes(usize),
     NoSize,
 }
 
 // The header of an element: its tag byte, where its contents begin, and where they end.
-#[derive(Drop)]
+#[derive(Clone, Copy)]
 pub struct Head {
     pub tag: u8,
     pub start: usize,
@@ -21,14 +21,14 @@ pub struct Head {
 }
 
 // A header of the right form, or none.
-#[derive(Drop)]
+#[derive(Clone, Copy)]
 pub enum Header {
     Opens(Head),
     NoHeader,
 }
 
 // A walk ends past what it walked, or with a fault at a place.
-#[derive(Drop)]
+#[derive(Clone, Copy)]
 pub enum Walk {
     Past(usize),
     Fault(usize),

@@ -8,7 +8,7 @@ ghost use Rattle.fields.specs.Blank.{blank, unblanked};
 ghost use Rattle.fields.specs.Name.{letter_or_digit, name_byte, field_at};
 
 // A field's name: the place of the byte that ends it, or no name.
-#[derive(Drop)]
+#[derive(Clone, Copy)]
 pub enum Field {
     Named(usize),
     Malformed,

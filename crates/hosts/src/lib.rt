@@ -13,14 +13,14 @@ mod walk;
 
 // The answer: its number, and how many TLSA answers the walk read.
 #[repr(C)]
-#[derive(Drop)]
+#[derive(Clone, Copy)]
 pub struct HostAnswer {
     pub number: u64,
     pub tlsa_questions: u64,
 }
 
 // The numbers of the call, in the boundary's order.
-#[derive(Drop)]
+#[derive(Clone, Copy)]
 pub struct Numbers {
     pub clock: u64,
     pub expanded_next_hop_given: u64,
@@ -40,14 +40,14 @@ pub struct Numbers {
 }
 
 // The number of a refusal, or none.
-#[derive(Drop)]
+#[derive(Clone, Copy)]
 pub enum Refusal {
     None,
     Number(u64),
 }
 
 // What reading a TLSA answer comes to, where it is given.
-#[derive(Drop)]
+#[derive(Clone, Copy)]
 pub enum MaybeRead {
     NotGiven,
     Is(Read),
@@ -55,7 +55,7 @@ pub enum MaybeRead {
 
 // The set that was taken, or none: what it needs, whether it stands at the expanded name, whether it is that of the second answer,
 // and how many answers were read.
-#[derive(Drop)]
+#[derive(Clone, Copy)]
 pub struct Found {
     pub needs: Needs,
     pub expanded: bool,
@@ -64,14 +64,14 @@ pub struct Found {
 }
 
 // What the TLSA answers come to: an answer of the call, or the connection is next.
-#[derive(Drop)]
+#[derive(Clone, Copy)]
 pub enum Stage {
     Answered(HostAnswer),
     Connect(Found),
 }
 
 // What the connection comes to: an answer of the call, or the certificate facts decide.
-#[derive(Drop)]
+#[derive(Clone, Copy)]
 pub enum Connection {
     Answered(HostAnswer),
     Certificates,

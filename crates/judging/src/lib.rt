@@ -21,7 +21,7 @@ use x509::{Found, Name};
 const CERTIFICATES_OUTSIDE_LIMITS: u64 = 65;
 
 // What comes of the certificates: the number of a refusal, or what was found in the leaf.
-#[derive(Drop)]
+#[derive(Clone, Copy)]
 enum ChainRead {
     Refused(u64),
     Is(Found),

@@ -16,7 +16,7 @@ const DNS_IDS_AT_MOST: usize = 64;
 const TWO_BYTES_BELOW: usize = 65536;
 
 // What is read of a certificate: a fault at an offset, too many DNS-IDs, or what was found.
-#[derive(Drop)]
+#[derive(Clone, Copy)]
 pub enum Reading {
     Fault(usize),
     ManyDnsIds,
@@ -25,7 +25,7 @@ pub enum Reading {
 
 // The answer of the call that reads a certificate.
 #[repr(C)]
-#[derive(Drop)]
+#[derive(Clone, Copy)]
 pub struct CertificateAnswer {
     pub number: u64,
     pub length: u64,

@@ -10,7 +10,7 @@ ghost use Rattle.lending.specs.Lent.{lent};
 use cache::{CacheAnswer, CacheEntry};
 
 // The answer to a store, and the table after it.
-#[derive(Drop)]
+#[derive(Clone, Copy)]
 pub struct Stored {
     pub number: u64,
     pub length: u64,

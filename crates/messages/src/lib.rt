@@ -8,21 +8,21 @@ ghost use Rattle.messages.specs.Search.{with_host, decided_by};
 
 // The number of the answer, and the position of the host that decides, counted from 0 in the list as given; 0 where no host does.
 #[repr(C)]
-#[derive(Drop)]
+#[derive(Clone, Copy)]
 pub struct MessageAnswer {
     pub number: u64,
     pub position: u64,
 }
 
 // How the MX lookup ended.
-#[derive(Drop)]
+#[derive(Clone, Copy)]
 pub enum MxLookup {
     Answered,
     Failed,
 }
 
 // The host that decides among those looked at, where there is one.
-#[derive(Drop)]
+#[derive(Clone, Copy)]
 enum Decider {
     Is {
         preference: u64,

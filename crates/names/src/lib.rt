@@ -12,7 +12,7 @@ ghost use Rattle.names.specs.Name.{label_byte, is_label, is_name, is_starred, is
 ghost use Rattle.names.specs.Scan.{starts_label, label_ends, follows_dot, covers_name};
 
 // What comparing two texts ignoring ASCII case gave: whether they are equal, and how many byte pairs were read.
-#[derive(Drop)]
+#[derive(Clone, Copy)]
 pub struct Comparison {
     pub equal: bool,
     pub pairs: usize,
@@ -178,7 +178,7 @@ pub fn is_pattern(p: &[u8]) -> bool
 }
 
 // What a text is for a name: no pattern; or a pattern that matches the name, or another.
-#[derive(Drop)]
+#[derive(Clone, Copy)]
 pub enum Pattern {
     Malformed,
     Matching,

@@ -1,6 +1,6 @@
 -- Where the lines of a body begin: `line_start` says it as document 02 does, in both directions, and cuts the lines of the body there. Assumes nothing.
 use Prim.Native.Nat.{ℕ, zero, suc, ◌+◌, ◌<◌, ◌≤◌}
-use mathlib.Core.Path.{◌≡◌, refl, sym, ap, ◌∙◌}
+use mathlib.Core.Path.{◌≡◌, refl, sym, ap, ◌∙◌, subst}
 use mathlib.Core.Bool.{Bool, true, false, cond, ◌&&◌}
 use mathlib.Core.List.{List, [], ◌∷◌, ◌++◌}
 use native.Mathlib.Omega.{arith}
@@ -73,7 +73,7 @@ some_lf x (y ∷ p) h = go (some_lf y p h) (eqb x LF)
 start_cut : (p r : List ℕ) → whole_lines p ≡ true → line_start (p ++ r) (count_lf p) ≡ length p
 unfolding whole_lines count_lf line_start
 start_cut [] r h = refl
-start_cut (x ∷ []) r h = let e : x ≡ LF = eqb-true x LF h in rw e (lf_shifts r 0)
+start_cut (x ∷ []) r h = subst (λ (y : ℕ). line_start (y ∷ r) (count_lf (y ∷ [])) ≡ 1) (sym (eqb-true x LF h)) (lf_shifts r 0)
 start_cut (x ∷ y ∷ p) r h = go (start_cut (y ∷ p) r h) (some_lf y p h) (eqb x LF) refl
   where
     other : (c : ℕ) → 1 ≤ c → eqb x LF ≡ false → line_start (y ∷ (p ++ r)) c ≡ length (y ∷ p) → line_start (x ∷ y ∷ (p ++ r)) c ≡ suc (length (y ∷ p))
@@ -81,7 +81,8 @@ start_cut (x ∷ y ∷ p) r h = go (start_cut (y ∷ p) r h) (some_lf y p h) (eq
     other (suc c) o e ih = byte_shifts x (y ∷ (p ++ r)) e c ∙ ap suc ih
 
     go : line_start (y ∷ (p ++ r)) (count_lf (y ∷ p)) ≡ length (y ∷ p) → 1 ≤ count_lf (y ∷ p) → (t : Bool) → eqb x LF ≡ t → line_start (x ∷ y ∷ (p ++ r)) (cond t (suc (count_lf (y ∷ p))) (count_lf (y ∷ p))) ≡ suc (length (y ∷ p))
-    go ih o true e = let k : x ≡ LF = eqb-true x LF e in rw k (lf_shifts (y ∷ (p ++ r)) (count_lf (y ∷ p)) ∙ ap suc ih)
+    go ih o true e =
+        subst (λ (z : ℕ). line_start (z ∷ y ∷ (p ++ r)) (suc (count_lf (y ∷ p))) ≡ suc (length (y ∷ p))) (sym (eqb-true x LF e)) (lf_shifts (y ∷ (p ++ r)) (count_lf (y ∷ p)) ∙ ap suc ih)
     go ih o false e = other (count_lf (y ∷ p)) o e ih
 
 -- where a line begins, the lines of the body are cut: those before it, and it with those after it

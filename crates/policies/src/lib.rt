@@ -51,7 +51,7 @@ pub const LONGEST_BODY: usize = 65536;
 // The answer to a policy body: on 7 its mode, its lifetime in seconds and the count of its mx lines; on 53 to 57 the first line that offends, counted from 1,
 // and the place where it begins. All else is zero.
 #[repr(C)]
-#[derive(Drop)]
+#[derive(Clone, Copy)]
 pub struct PolicyAnswer {
     pub number: u64,
     pub mode: u64,
@@ -62,14 +62,14 @@ pub struct PolicyAnswer {
 }
 
 // The answer to a policy body, and whether the body is accepted and one of its patterns matches a host.
-#[derive(Drop)]
+#[derive(Clone, Copy)]
 pub struct PolicyFor {
     pub answer: PolicyAnswer,
     pub listed: bool,
 }
 
 // The mode of a policy.
-#[derive(Drop)]
+#[derive(Clone, Copy)]
 pub enum Mode {
     Enforce,
     Testing,
@@ -77,7 +77,7 @@ pub enum Mode {
 }
 
 // What is wrong with a line: its form, or what its field holds.
-#[derive(Drop)]
+#[derive(Clone, Copy)]
 pub enum Cause {
     Form,
     Version,
@@ -87,7 +87,7 @@ pub enum Cause {
 }
 
 // The first fault of a body: its cause, its line, counted from 1, and the place where that line begins.
-#[derive(Drop)]
+#[derive(Clone, Copy)]
 pub struct Fault {
     pub cause: Cause,
     pub line: u64,
@@ -95,7 +95,7 @@ pub struct Fault {
 }
 
 // The first mode that was read so far, or that none was. Its cases stand side by side, and not as a `Mode` inside of it, so that it takes one byte: every line hands it on.
-#[derive(Drop)]
+#[derive(Clone, Copy)]
 enum MaybeMode {
     Enforce,
     Testing,
@@ -104,14 +104,14 @@ enum MaybeMode {
 }
 
 // A max_age, or none.
-#[derive(Drop)]
+#[derive(Clone, Copy)]
 enum MaybeAge {
     Is(u64),
     Nothing,
 }
 
 // The fields that are read, by their names.
-#[derive(Drop)]
+#[derive(Clone, Copy)]
 enum Kind {
     Version,
     Mode,
@@ -121,7 +121,7 @@ enum Kind {
 }
 
 // The fields seen so far: the first of each name counts.
-#[derive(Drop)]
+#[derive(Clone, Copy)]
 struct Seen {
     version: bool,
     mode: MaybeMode,
@@ -129,7 +129,7 @@ struct Seen {
 }
 
 // What a line does: it leaves these fields; it has a pattern, which says whether the host is listed from there on; or it has a fault.
-#[derive(Drop)]
+#[derive(Clone, Copy)]
 enum Step {
     Next(Seen),
     Pattern(bool),
@@ -137,7 +137,7 @@ enum Step {
 }
 
 // The same with the place where the next line begins.
-#[derive(Drop)]
+#[derive(Clone, Copy)]
 enum Turn {
     Next(Seen, usize),
     Pattern(bool, usize),
@@ -145,7 +145,7 @@ enum Turn {
 }
 
 // A whole body: its first fault, or its fields, the count of its patterns and whether the host is listed.
-#[derive(Drop)]
+#[derive(Clone, Copy)]
 enum Checked {
     Refused(Fault),
     Read(Seen, u64, bool),

@@ -7,13 +7,13 @@ ghost use Rattle.reader.specs.Read.{step_at, past_at};
 
 use der::{Head, Header};
 
-#[derive(Drop)]
+#[derive(Clone, Copy)]
 pub struct Reader<'a> {
     pub src: &'a [u8],
     pub at: usize,
 }
 
-#[derive(Drop)]
+#[derive(Clone, Copy)]
 pub enum Step {
     Element(Head),
     End,

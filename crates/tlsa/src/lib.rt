@@ -8,7 +8,7 @@ ghost use Rattle.tlsa.specs.Answer.{records_of, answer_of, answer_fits, needs_of
 ghost use Rattle.tlsa.specs.Address.{names_to_try, meaning_of};
 
 // How a TLSA lookup ended. A secure answer has a list of records, perhaps none.
-#[derive(Drop)]
+#[derive(Clone, Copy)]
 pub enum Lookup {
     Secure,
     Insecure,
@@ -17,7 +17,7 @@ pub enum Lookup {
 }
 
 // What a set of TLSA records needs, from the least to the most.
-#[derive(Drop)]
+#[derive(Clone, Copy)]
 pub enum Needs {
     Nothing,
     Tls,
@@ -25,7 +25,7 @@ pub enum Needs {
 }
 
 // What reading a TLSA answer comes to: the lookup failed, the set is taken, or the next name is tried.
-#[derive(Drop)]
+#[derive(Clone, Copy)]
 pub enum Read {
     LookupFailed,
     Taken(Needs),
@@ -33,7 +33,7 @@ pub enum Read {
 }
 
 // The result of the lookup of a host's address.
-#[derive(Drop)]
+#[derive(Clone, Copy)]
 pub enum Address {
     NoAliasSecure,
     NoAliasInsecure,
@@ -45,7 +45,7 @@ pub enum Address {
 }
 
 // The TLSA names to try; or that the address lookup failed, or that there is no address.
-#[derive(Drop)]
+#[derive(Clone, Copy)]
 pub enum Tries {
     ExpandedThenHost,
     HostOnly,

@@ -20,7 +20,7 @@ const TAG: [u8; 8] = [b'v', b'=', b'S', b'T', b'S', b'v', b'1', b';'];
 
 // The answer of a call: its number, and on 6 where in the output the id starts and how long it is.
 #[repr(C)]
-#[derive(Drop)]
+#[derive(Clone, Copy)]
 pub struct TxtAnswer {
     pub number: u64,
     pub id_start: u64,
@@ -106,7 +106,7 @@ fn is_candidate(s: &[u8]) -> bool
 }
 
 // What an RDATA is: of no right wire form, a record to drop, or a candidate.
-#[derive(Drop)]
+#[derive(Clone, Copy)]
 enum Kind {
     Broken,
     Other,
@@ -129,7 +129,7 @@ fn kind_of(s: &[u8]) -> Kind
 }
 
 // What the RDATAs hold: a broken wire form, no candidate, one, from a place to a place, or several.
-#[derive(Drop)]
+#[derive(Clone, Copy)]
 enum Found {
     Broken,
     Nothing,
@@ -297,7 +297,7 @@ fn value_end(t: &[u8], e: usize) -> usize
 }
 
 // What follows the version or a field: the end; a field from a place, with its `=` at a place and its value up to a place; or neither.
-#[derive(Drop)]
+#[derive(Clone, Copy)]
 enum Step {
     End,
     Field(usize, usize, usize),

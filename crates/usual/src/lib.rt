@@ -10,21 +10,21 @@ use der::{Header, Walk};
 use x509::{Fields, Noted};
 
 // What is seen of the usual shape: a number, or another shape.
-#[derive(Drop)]
+#[derive(Clone, Copy)]
 pub enum Seen {
     Is(usize),
     Other,
 }
 
 // The offset past an element of the usual shape and a number, or another shape.
-#[derive(Drop)]
+#[derive(Clone, Copy)]
 pub enum Passed {
     To(usize, usize),
     Other,
 }
 
 // What is noted in a certificate of the usual shape, or another shape.
-#[derive(Drop)]
+#[derive(Clone, Copy)]
 pub enum AtSight {
     Is(Noted),
     Other,

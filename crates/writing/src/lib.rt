@@ -11,7 +11,7 @@ pub const OUTPUT_SHORT: u64 = 83;
 
 // The answer of a call that writes: 15 with the length that it wrote to its output, 0 where it has none; or a refusal and zero.
 #[repr(C)]
-#[derive(Drop)]
+#[derive(Clone, Copy)]
 pub struct WriteAnswer {
     pub number: u64,
     pub length: u64,

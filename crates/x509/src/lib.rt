@@ -56,7 +56,7 @@ const REGISTERED_ID: u8 = 136;
 const LEVELS: usize = 16;
 
 // A place in RFC 5280's fields: the field that comes next.
-#[derive(Drop)]
+#[derive(Clone, Copy)]
 pub enum Place {
     Certificate,
     TbsCertificate,
@@ -95,7 +95,7 @@ pub enum Place {
 }
 
 // What the reader takes note of.
-#[derive(Drop)]
+#[derive(Clone, Copy)]
 pub enum Note {
     Nothing,
     KeyInfo,
@@ -104,14 +104,14 @@ pub enum Note {
 }
 
 // What stands in an element: anything, or fields from a place on.
-#[derive(Drop)]
+#[derive(Clone, Copy)]
 pub enum Inside {
     Free,
     Holds(Place),
 }
 
 // An element that may stand at a place.
-#[derive(Drop)]
+#[derive(Clone, Copy)]
 pub struct Field {
     pub note: Note,
     pub inside: Inside,
@@ -119,14 +119,14 @@ pub struct Field {
 }
 
 // What a place expects: a field, or not this element.
-#[derive(Drop)]
+#[derive(Clone, Copy)]
 pub enum Expected {
     Fits(Field),
     Misplaced,
 }
 
 // The offsets of the elements that are noted, 0 where there is none.
-#[derive(Drop)]
+#[derive(Clone, Copy)]
 pub struct Noted {
     pub key: usize,
     pub name: usize,
@@ -134,7 +134,7 @@ pub struct Noted {
 }
 
 // What an element is where the walk meets it: refused; passed, at the place after it; or entered, at the place in it and with the place after it.
-#[derive(Drop)]
+#[derive(Clone, Copy)]
 pub enum Met {
     Refused,
     Passed(Place, Noted),
@@ -142,35 +142,35 @@ pub enum Met {
 }
 
 // The walk of an element ends at the offset and the place after it, or with a fault at an offset.
-#[derive(Drop)]
+#[derive(Clone, Copy)]
 pub enum ElementWalk {
     Past(usize, Place, Noted),
     Fault(usize),
 }
 
 // The walk of a run ends with what is noted, or with a fault at an offset.
-#[derive(Drop)]
+#[derive(Clone, Copy)]
 pub enum RunWalk {
     Past(Noted),
     Fault(usize),
 }
 
 // A part of the certificate.
-#[derive(Drop)]
+#[derive(Clone, Copy)]
 pub struct Part {
     pub start: usize,
     pub end: usize,
 }
 
 // The part of a name, or none.
-#[derive(Drop)]
+#[derive(Clone, Copy)]
 pub enum Name {
     Given(Part),
     Absent,
 }
 
 // What is found in a certificate.
-#[derive(Drop)]
+#[derive(Clone, Copy)]
 pub struct Found {
     pub key: Part,
     pub name: Name,
@@ -178,7 +178,7 @@ pub struct Found {
 }
 
 // The fields of a certificate are found, or there is a fault at an offset.
-#[derive(Drop)]
+#[derive(Clone, Copy)]
 pub enum Fields {
     Are(Found),
     Fault(usize),

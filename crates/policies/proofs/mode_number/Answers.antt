@@ -1,0 +1,21 @@
+-- `policies::mode_number` meets its contract. Assumes nothing.
+use Rattle.policies.proofs.Answers.{number_laws}
+use Rattle.policies.proofs.mode_number.Goals as goal
+
+pub enum_told-1 : goal.enum_told-1
+enum_told-1 c = search number_laws
+
+pub enum_told-in-Testing : goal.enum_told-in-Testing
+enum_told-in-Testing c = search number_laws
+
+pub enum_told-in-None : goal.enum_told-in-None
+enum_told-in-None c = search number_laws
+
+pub returns-in-Enforce : goal.returns-in-Enforce
+returns-in-Enforce c = search number_laws
+
+pub returns-in-Testing : goal.returns-in-Testing
+returns-in-Testing c = search number_laws
+
+pub returns-in-None : goal.returns-in-None
+returns-in-None c = search number_laws
