@@ -10,7 +10,7 @@ use Rattle.tlsa.specs.Address.{TlsaName, expanded_name, host_name, names, names_
 use Rattle.tlsa.specs.Answer.{Answer}
 use Rattle.hosts.specs.Facts.{Base, Handshake, established, failed, first, second, tlsa, Full, value}
 use Rattle.hosts.specs.Tree.{Rules, reached}
-use Rattle.hosts.specs.Rules.{is_old, needs_mta_sts, is_listed, Taken, nothing, needs_authentication, after_handshake, connect, domain_of, seek, start, rules}
+use Rattle.hosts.specs.Rules.{is_old, needs_mta_sts, is_listed, Taken, nothing, set, needs_authentication, after_handshake, connect, domain_of, seek, start, rules}
 use Rattle.hosts.specs.Demands.{is_rising}
 use Rattle.lists.proofs.Bools.{by_cond}
 use Rattle.hosts.proofs.AnswerCases.{by_answer}
@@ -27,13 +27,13 @@ module _ (b : Base) (f : Full) where
   rises_connect n h s = rw h (by_cond (Rises 3) f.offered (λ e. rises_handshake s f.outcome) (λ e. refl))
 
   rises_second : (n : TlsaName) → Rises 1 (seek b second (n ∷ []))
-  rises_second n = by_answer b (domain_of b n) (seek b second []) (λ (a : Answer) (t : Rules). Rises 2 t) refl last last last (λ r rs e. refl) (λ r rs e. rises_connect 2 refl _) (value f (tlsa second))
+  rises_second n = by_answer b (domain_of b n) (seek b second []) (λ (a : Answer) (t : Rules). Rises 2 t) refl last last last (λ r rs e. refl) (λ r rs e. rises_connect 2 refl (set (domain_of b n) (r ∷ rs))) (value f (tlsa second))
     where
       last : Rises 2 (connect b nothing)
       last = rises_connect 2 refl nothing
 
   rises_first : (n : TlsaName) (ns : List TlsaName) → Rises 1 (seek b second ns) → Rises 0 (seek b first (n ∷ ns))
-  rises_first n ns next = by_answer b (domain_of b n) (seek b second ns) (λ (a : Answer) (t : Rules). Rises 1 t) refl next next next (λ r rs e. refl) (λ r rs e. rises_connect 1 refl _) (value f (tlsa first))
+  rises_first n ns next = by_answer b (domain_of b n) (seek b second ns) (λ (a : Answer) (t : Rules). Rises 1 t) refl next next next (λ r rs e. refl) (λ r rs e. rises_connect 1 refl (set (domain_of b n) (r ∷ rs))) (value f (tlsa first))
 
   rises_names : (ns : List TlsaName) → Rises 0 (seek b first ns) → Rises 0 (start b (names ns))
   rises_names ns h = by_cond (Rises 0) (needs_mta_sts b && not (is_listed b)) (λ e. refl) (λ e. h)

@@ -1,0 +1,12 @@
+-- `x509::name_at` meets its contract. Assumes nothing.
+use Rattle.x509.proofs.Parts.{part_laws}
+use Rattle.x509.proofs.name_at.Goals as goal
+
+pub returns-then-at-eq0 : goal.returns-then-at-eq0
+returns-then-at-eq0 c = search part_laws
+
+pub contents_at-p-requires : goal.contents_at-p-requires
+contents_at-p-requires c = search part_laws
+
+pub returns : goal.returns
+returns c = search part_laws
