@@ -1,6 +1,4 @@
 pub mod Covered
-pub mod Walk
-pub mod Field
 pub mod Pass
 pub mod Fill
 pub mod Stored
@@ -9,6 +7,5 @@ pub mod Single
 pub mod StoredFound
 pub mod Steps
 pub mod Independence
-pub mod Shared
 pub mod Exactly
 pub mod Worked

@@ -9,9 +9,13 @@ use lib.ListN.{length, get_or, drop, drop_of_length-le}
 use borrow.Author.Tests.{le-ltb, lt-ltb, ltb-false}
 use Rattle.cache.specs.declared.CacheEntry.{CacheEntry}
 use Rattle.cache.specs.declared.Found.{Found}
-use Rattle.cache.specs.Held.{no_entry}
 use Rattle.cache.specs.Scan.{is_sought, better, step, found_from, start_at, next_at}
-use Rattle.cache.proofs.Walk.{entry_next}
+use lib.Seq.{drop-cons}
+use native.Mathlib.Numerals.{add-one}
+
+-- what is left of a table at i begins with the entry at i
+pub entry_next : {X : Type 0} (l : List X) (i : ℕ) (z : X) → i < length l → drop i l ≡ get_or l i z ∷ drop (i + 1) l
+entry_next l i z h = rw (add-one, drop-cons l i z)
 
 module _ (own : Bool) (clock : ℕ) (d x : List ℕ) where
   -- an entry that is not sought changes nothing, and one that is sought may be better
@@ -34,10 +38,10 @@ module _ (own : Bool) (clock : ℕ) (d x : List ℕ) where
   ended_stays s h i (e ∷ t) = rw (ended_kept s e i h) (ended_stays s h (i + 1) t)
 
   -- a turn, the end, and the jump to it
-  pub turn_is : (i : ℕ) (s : Found) (ys : List CacheEntry) → i < length ys
-      → found_from own clock d x i s (drop i ys) ≡ found_from own clock d x (i + 1) (step own clock d x s (get_or ys i no_entry) i) (drop (i + 1) ys)
+  pub turn_is : (i : ℕ) (s : Found) (ys : List CacheEntry) (z : CacheEntry) → i < length ys
+      → found_from own clock d x i s (drop i ys) ≡ found_from own clock d x (i + 1) (step own clock d x s (get_or ys i z) i) (drop (i + 1) ys)
   unfolding found_from
-  turn_is i s ys l = ap (found_from own clock d x i s) (entry_next ys i no_entry l)
+  turn_is i s ys z l = ap (found_from own clock d x i s) (entry_next ys i z l)
 
   pub end_is : (i : ℕ) (s : Found) (ys : List CacheEntry) → length ys ≤ i → found_from own clock d x i s (drop i ys) ≡ s
   unfolding found_from
@@ -61,6 +65,23 @@ module _ (own : Bool) (clock : ℕ) (d x : List ℕ) where
       go true e = refl
       go false e = ended_stays s (ltb-false 2 s.rank e) 0 ys ∙ sym (end_is (length ys) s ys (omega arith))
 
+  -- `scan`: where it begins; a turn whose entry is not sought, whether it was being q; one whose entry is, with what is found then and where the pass goes on
+  pub scan_begins : (s : Found) (ys : List CacheEntry) (i : ℕ) → i ≡ start_at s.rank (length ys) → found_from own clock d x 0 s ys ≡ found_from own clock d x i s (drop i ys)
+  scan_begins s ys i e = begin_is s ys ∙ ap (λ (j : ℕ). found_from own clock d x j s (drop j ys)) (sym e)
+
+  pub scan_passes : (s : Found) (ys : List CacheEntry) (i : ℕ) (z : CacheEntry) (q : Bool) → i < length ys → q ≡ is_sought own s.rank (get_or ys i z).domain d → q ≡ false
+      → found_from own clock d x i s (drop i ys) ≡ found_from own clock d x (i + 1) s (drop (i + 1) ys)
+  scan_passes s ys i z q l gave e =
+      turn_is i s ys z l ∙ ap (λ (r : Found). found_from own clock d x (i + 1) r (drop (i + 1) ys)) (sym (step_kept s (get_or ys i z) i (sym gave ∙ e)))
+
+  pub scan_takes : (s : Found) (ys : List CacheEntry) (i : ℕ) (z : CacheEntry) (q : Bool) → i < length ys → q ≡ is_sought own s.rank (get_or ys i z).domain d → q ≡ true
+      → (r : Found) → r ≡ better own clock x s (get_or ys i z) i → (j : ℕ) → j ≡ next_at r.rank i (length ys)
+      → found_from own clock d x i s (drop i ys) ≡ found_from own clock d x j r (drop j ys)
+  scan_takes s ys i z q l gave e r b j n =
+      turn_is i s ys z l
+      ∙ ap (λ (r' : Found). found_from own clock d x (i + 1) r' (drop (i + 1) ys)) (sym (b ∙ step_taken s (get_or ys i z) i (sym gave ∙ e)))
+      ∙ (jump_is i r ys l ∙ ap (λ (k : ℕ). found_from own clock d x k r (drop k ys)) (sym n))
+
 -- a pass goes on, and within the table
 pub next_more : (rank i n : ℕ) → i < n → n - next_at rank i n < n - i
 unfolding next_at
@@ -69,3 +90,6 @@ next_more rank i n l = rw (lt-ltb i n l, and-true (ltb 2 rank)) (go (ltb 2 rank)
     go : (b : Bool) → n - cond b (i + 1) n < n - i
     go true = omega (arith, l)
     go false = omega (arith, l)
+
+pub next_later : (rank i n j : ℕ) → j ≡ next_at rank i n → i < n → n - j < n - i
+next_later rank i n j e l = rw e (next_more rank i n l)
