@@ -145,10 +145,7 @@ pub fn tweedstork_judge_host<'a>(
 }
 
 // Which DNS-IDs and which common name does this certificate have, and where does its public key info stand?
-pub fn tweedstork_read_certificate(
-    certificate: &[u8],
-    places: &mut [u8],
-) -> CertificateAnswer
+pub fn tweedstork_read_certificate(certificate: &[u8], places: &mut [u8]) -> CertificateAnswer
     ensures value { result ≡ read_certificate certificate.now (length places.old) }
     ensures places_after { places.new ≡ wrote_places certificate.now places.old }
 {
@@ -225,11 +222,7 @@ pub fn tweedstork_judge_host_certificate<'a>(
 }
 
 // Which of a message's hosts decides?
-pub fn tweedstork_next_host(
-    mx_lookup: u64,
-    preferences: &[u8],
-    verdicts: &[u8],
-) -> MessageAnswer
+pub fn tweedstork_next_host(mx_lookup: u64, preferences: &[u8], verdicts: &[u8]) -> MessageAnswer
     ensures { result ≡ next_host_answer mx_lookup preferences.now verdicts.now }
 {
     match mx_lookup {

@@ -14,9 +14,9 @@ ghost use Rattle.txt.specs.Txt.{read_txt, wrote_txt};
 ghost use Rattle.tweedstork.specs.Calls.{next_host_answer, version};
 
 use cache::{CacheAnswer, CacheEntry};
-use hosts::{HostAnswer};
+use hosts::HostAnswer;
 use leaf::CertificateAnswer;
-use messages::{MessageAnswer};
+use messages::MessageAnswer;
 use policies::PolicyAnswer;
 use txt::TxtAnswer;
 use writing::WriteAnswer;
@@ -84,7 +84,40 @@ pub extern "C" fn tweedstork_judge_host<'a>(
 ) -> HostAnswer
     ensures { Judged (arguments_of (record { clock = clock; expanded_next_hop_given = expanded_next_hop_given; origin = origin; address = address; policy_given = policy_given; fetched = fetched; tlsa_answers = tlsa_answers; tlsa1_result = tlsa1_result; tlsa2_result = tlsa2_result; starttls = starttls; handshake = handshake; tls_version = tls_version; certificates_given = certificates_given; trusted_root = trusted_root; common_name_given = common_name_given }) next_hop.now expanded_next_hop.now host.now expanded.now policy.now tlsa1_lengths.now tlsa1_records.now tlsa2_lengths.now tlsa2_records.now certificates.now certificate_lengths.now key_places.now digests.now paths.now dns_ids.now dns_id_lengths.now common_name.now) result }
 {
-    tweedstork::tweedstork_judge_host(clock, next_hop, expanded_next_hop_given, expanded_next_hop, origin, host, address, expanded, policy_given, policy, fetched, tlsa_answers, tlsa1_result, tlsa1_lengths, tlsa1_records, tlsa2_result, tlsa2_lengths, tlsa2_records, starttls, handshake, tls_version, certificates_given, certificates, certificate_lengths, key_places, digests, paths, trusted_root, dns_ids, dns_id_lengths, common_name_given, common_name)
+    tweedstork::tweedstork_judge_host(
+        clock,
+        next_hop,
+        expanded_next_hop_given,
+        expanded_next_hop,
+        origin,
+        host,
+        address,
+        expanded,
+        policy_given,
+        policy,
+        fetched,
+        tlsa_answers,
+        tlsa1_result,
+        tlsa1_lengths,
+        tlsa1_records,
+        tlsa2_result,
+        tlsa2_lengths,
+        tlsa2_records,
+        starttls,
+        handshake,
+        tls_version,
+        certificates_given,
+        certificates,
+        certificate_lengths,
+        key_places,
+        digests,
+        paths,
+        trusted_root,
+        dns_ids,
+        dns_id_lengths,
+        common_name_given,
+        common_name,
+    )
 }
 
 // Which DNS-IDs and which common name does this certificate have, and where does its public key info stand?
@@ -133,7 +166,36 @@ pub extern "C" fn tweedstork_judge_host_certificate<'a>(
 ) -> HostAnswer
     ensures { result ≡ certificate_answer (arguments_of (record { clock = clock; expanded_next_hop_given = expanded_next_hop_given; origin = origin; address = address; policy_given = policy_given; fetched = fetched; tlsa_answers = tlsa_answers; tlsa1_result = tlsa1_result; tlsa2_result = tlsa2_result; starttls = starttls; handshake = handshake; tls_version = tls_version; certificates_given = certificates_given; trusted_root = trusted_root; common_name_given = 2 }) next_hop.now expanded_next_hop.now host.now expanded.now policy.now tlsa1_lengths.now tlsa1_records.now tlsa2_lengths.now tlsa2_records.now certificates.now certificate_lengths.now key_places.now digests.now paths.now [] [] []) }
 {
-    tweedstork::tweedstork_judge_host_certificate(clock, next_hop, expanded_next_hop_given, expanded_next_hop, origin, host, address, expanded, policy_given, policy, fetched, tlsa_answers, tlsa1_result, tlsa1_lengths, tlsa1_records, tlsa2_result, tlsa2_lengths, tlsa2_records, starttls, handshake, tls_version, certificates_given, certificates, certificate_lengths, key_places, digests, paths, trusted_root)
+    tweedstork::tweedstork_judge_host_certificate(
+        clock,
+        next_hop,
+        expanded_next_hop_given,
+        expanded_next_hop,
+        origin,
+        host,
+        address,
+        expanded,
+        policy_given,
+        policy,
+        fetched,
+        tlsa_answers,
+        tlsa1_result,
+        tlsa1_lengths,
+        tlsa1_records,
+        tlsa2_result,
+        tlsa2_lengths,
+        tlsa2_records,
+        starttls,
+        handshake,
+        tls_version,
+        certificates_given,
+        certificates,
+        certificate_lengths,
+        key_places,
+        digests,
+        paths,
+        trusted_root,
+    )
 }
 
 // Which of a message's hosts decides?
