@@ -1,2 +1,1 @@
-mod Part
 pub mod Count
