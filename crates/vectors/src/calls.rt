@@ -4,20 +4,27 @@
 // The facts of a host are given by name: facts.rt. The calls on a cache go on from what the lines before them left: history.rt.
 use crate::facts;
 use crate::facts::Found;
-use crate::line::{Fields, MOST_FIELDS, bytes_at, has_kinds_at, name, number_at, part};
+use crate::line::{Fields, MOST_FIELDS, bytes_at, has_kinds_at, number_at, part};
 use hosts::HostAnswer;
 use leaf::CertificateAnswer;
-use libc::STDOUT_FILENO;
+use std::io;
 use writing::WriteAnswer;
 
-// What a line came to. Where a case differs, a line that says so has been written.
+// What a line came to.
 #[derive(Drop)]
 pub enum Outcome {
     Passed,
-    Differs,
+    Differs(Difference),
     Unreadable,
     // a line that is no case, but prepares those after it
     SetUp,
+}
+
+// What of a case differs: what the words say, or the numbers of its answer. The first are those expected, the second those that came.
+#[derive(Drop)]
+pub enum Difference {
+    Named(&'static str),
+    Numbers(Answer, Answer),
 }
 
 // The calls that write to an output.
@@ -89,12 +96,12 @@ fn with_output_in(s: &[u8], f: Fields, call: Writer, k: usize, room: &mut [u8]) 
     if count == 0 {
         return Outcome::Unreadable;
     }
-    bytes::copy(before, room);
+    room[0..n].copy_from_slice(before);
     let got = answered(s, f, call, &mut room[0..n]);
-    if !check::same(part(room, 0, n), bytes_at(s, f, count - 1)) {
-        return differs(name(s, f), b": output differs\n");
+    if part(room, 0, n) != bytes_at(s, f, count - 1) {
+        return differs("output differs");
     }
-    compared(name(s, f), expected_at(f, k + 2, got.count), got)
+    compared(expected_at(f, k + 2, got.count), got)
 }
 
 fn answered(s: &[u8], f: Fields, call: Writer, output: &mut [u8]) -> Answer {
@@ -149,7 +156,7 @@ fn read_policy(s: &[u8], f: Fields) -> Outcome {
             r.number, r.mode, r.lifetime, r.mx_count, r.line, r.offset, 0, 0, 0,
         ],
     };
-    compared(name(s, f), expected_at(f, 4, 6), got)
+    compared(expected_at(f, 4, 6), got)
 }
 
 fn judge_host(s: &[u8], f: Fields, d: Fields) -> Outcome {
@@ -192,7 +199,7 @@ fn judge_host(s: &[u8], f: Fields, d: Fields) -> Outcome {
         number_at(v, 30),
         bytes_at(s, v, 31),
     );
-    compared_host(s, f, r)
+    compared_host(f, r)
 }
 
 // A case that gives a name of the leaf, which this call reads itself, can't be read.
@@ -231,17 +238,16 @@ fn judge_host_certificate(s: &[u8], f: Fields, d: Fields) -> Outcome {
         bytes_at(s, v, 26),
         number_at(v, 27),
     );
-    compared_host(s, f, r)
+    compared_host(f, r)
 }
 
 // Compares the answer on a host with the last two fields of its line.
-fn compared_host(s: &[u8], f: Fields, r: HostAnswer) -> Outcome {
+fn compared_host(f: Fields, r: HostAnswer) -> Outcome {
     let n = f.count;
     if n < 2 {
         return Outcome::Unreadable;
     }
     compared(
-        name(s, f),
         expected_at(f, n - 2, 2),
         answer_of(2, r.number, r.tlsa_questions, 0, 0),
     )
@@ -253,7 +259,6 @@ fn next_host(s: &[u8], f: Fields) -> Outcome {
     }
     let r = tweedstork::tweedstork_next_host(number_at(f, 2), bytes_at(s, f, 3), bytes_at(s, f, 4));
     compared(
-        name(s, f),
         expected_at(f, 6, 2),
         answer_of(2, r.number, r.position, 0, 0),
     )
@@ -289,26 +294,33 @@ pub(crate) fn answer_of(count: usize, a: u64, b: u64, c: u64, d: u64) -> Answer 
 }
 
 // Says what of a case differs.
-pub(crate) fn differs(case: &[u8], what: &[u8]) -> Outcome {
-    io::write_all(STDOUT_FILENO, case);
-    io::write_all(STDOUT_FILENO, what);
-    Outcome::Differs
+pub(crate) fn differs(what: &'static str) -> Outcome {
+    Outcome::Differs(Difference::Named(what))
 }
 
 // Compares a case's answers, and says where they differ.
-pub(crate) fn compared(case: &[u8], expected: Answer, got: Answer) -> Outcome {
+pub(crate) fn compared(expected: Answer, got: Answer) -> Outcome {
     let a = expected.numbers;
     let b = got.numbers;
     if same_numbers(a, b) {
         return Outcome::Passed;
     }
-    io::write_all(STDOUT_FILENO, case);
-    io::write_all(STDOUT_FILENO, b": expected ");
-    say_answer(expected);
-    io::write_all(STDOUT_FILENO, b", got ");
-    say_answer(got);
-    io::write_all(STDOUT_FILENO, b"\n");
-    Outcome::Differs
+    Outcome::Differs(Difference::Numbers(expected, got))
+}
+
+// Writes the line that says in what a case differs.
+pub(crate) fn say_difference(rt: &impl Print, case: &[u8], what: Difference) -> io::Result<()> {
+    rt.write_all(case)?;
+    match what {
+        Difference::Named(words) => println!(rt; ": {words}"),
+        Difference::Numbers(expected, got) => {
+            print!(rt; ": expected ")?;
+            say_answer(rt, expected)?;
+            print!(rt; ", got ")?;
+            say_answer(rt, got)?;
+            println!(rt)
+        }
+    }
 }
 
 fn same_numbers(a: [u64; 9], b: [u64; 9]) -> bool {
@@ -323,22 +335,22 @@ fn same_numbers(a: [u64; 9], b: [u64; 9]) -> bool {
         && a[8] == b[8]
 }
 
-fn say_answer(a: Answer) {
+fn say_answer(rt: &impl Print, a: Answer) -> io::Result<()> {
     let n = a.numbers;
-    io::print_decimal(STDOUT_FILENO, n[0]);
-    say_more(1 < a.count, n[1]);
-    say_more(2 < a.count, n[2]);
-    say_more(3 < a.count, n[3]);
-    say_more(4 < a.count, n[4]);
-    say_more(5 < a.count, n[5]);
-    say_more(6 < a.count, n[6]);
-    say_more(7 < a.count, n[7]);
-    say_more(8 < a.count, n[8]);
+    rt.print(n[0])?;
+    say_more(rt, 1 < a.count, n[1])?;
+    say_more(rt, 2 < a.count, n[2])?;
+    say_more(rt, 3 < a.count, n[3])?;
+    say_more(rt, 4 < a.count, n[4])?;
+    say_more(rt, 5 < a.count, n[5])?;
+    say_more(rt, 6 < a.count, n[6])?;
+    say_more(rt, 7 < a.count, n[7])?;
+    say_more(rt, 8 < a.count, n[8])
 }
 
-fn say_more(is_there: bool, n: u64) {
+fn say_more(rt: &impl Print, is_there: bool, n: u64) -> io::Result<()> {
     if is_there {
-        io::write_all(STDOUT_FILENO, b" ");
-        io::print_decimal(STDOUT_FILENO, n);
+        return print!(rt; " {n}");
     }
+    Ok(())
 }

@@ -39,7 +39,7 @@ pub(crate) fn of_default(s: &[u8], f: Fields) -> Fields {
     if f.count == 0 {
         return v;
     }
-    if !check::same(bytes_at(s, f, 1), b"judge_host") {
+    if bytes_at(s, f, 1) != b"judge_host".as_slice() {
         return broken(v);
     }
     with_facts(s, v, f, f.count, BY_DEFAULT)
@@ -184,13 +184,14 @@ fn broken(mut v: Fields) -> Fields {
 }
 
 // The item of a list, with a separator between each two, whose first word is this one.
+#[tactic(auto, using(crate::proofs::Find::finds))]
 pub(crate) fn item_of(list: &[u8], separator: u8, word: &[u8]) -> Found {
     let mut k = 0;
     let mut at = 0;
     while at < list.len() {
-        let end = bytes::scan::find(list, at, list.len(), separator);
-        let start = bytes::scan::find(list, at, end, b' ');
-        if check::same(&list[at..start], word) {
+        let end = lists::find(list, separator, at);
+        let start = lists::find(&list[..end], b' ', at);
+        if &list[at..start] == word {
             return Found::At(Item {
                 place: k,
                 start: start,

@@ -12,7 +12,7 @@ ghost use Rattle.std.specs.Prelude.{◌≤◌};
 
 use crate::calls::{Outcome, answer_of, compared, differs, expected_at};
 use crate::facts::Found;
-use crate::line::{Fields, bytes_at, has_kinds_at, name, number_at, part};
+use crate::line::{Fields, bytes_at, has_kinds_at, number_at, part};
 use crate::{calls, facts};
 use cache::{CacheAnswer, CacheEntry};
 use lending::Stored;
@@ -27,7 +27,7 @@ pub(crate) const TEXTS_ROOM: usize = 65537;
 const TEXT_ROOM: usize = 1024;
 
 // A cache but for its texts, which are held apart: how many entries and how many bytes of texts it has, and the entries.
-#[derive(Drop)]
+#[derive(Clone, Copy)]
 pub struct Cache {
     pub entries: usize,
     pub texts: usize,
@@ -199,13 +199,12 @@ fn compared_store(
     let got = r.table;
     let table = expected.table;
     if !same_tables(got, table) {
-        return differs(name(s, f), b": table differs\n");
+        return differs("table differs");
     }
-    if !check::same(got_texts, texts) {
-        return differs(name(s, f), b": texts differ\n");
+    if got_texts != texts {
+        return differs("texts differ");
     }
     compared(
-        name(s, f),
         answer_of(2, number_at(f, 7), number_at(f, 8), 0, 0),
         answer_of(2, r.number, r.length, 0, 0),
     )
@@ -228,32 +227,30 @@ fn lookup(c: Cache, s: &[u8], f: Fields, texts: &[u8]) -> Outcome {
 }
 
 fn compared_lookup(s: &[u8], f: Fields, r: CacheAnswer, texts: &[u8]) -> Outcome {
-    if !has_id(r, bytes_at(s, f, 9)) {
-        return differs(name(s, f), b": id differs\n");
+    if !has_id(&r, bytes_at(s, f, 9)) {
+        return differs("id differs");
     }
-    if !has_text(r, texts, bytes_at(s, f, 10)) {
-        return differs(name(s, f), b": text differs\n");
+    if !has_text(&r, texts, bytes_at(s, f, 10)) {
+        return differs("text differs");
     }
     compared(
-        name(s, f),
         expected_at(f, 5, 4),
         answer_of(4, r.number, r.length, r.text_start, r.fetched),
     )
 }
 
 // Whether an answer has this id, with zeros after it.
-fn has_id(r: CacheAnswer, id: &[u8]) -> bool {
+fn has_id(r: &CacheAnswer, id: &[u8]) -> bool {
     let mut filled_up = [0u8; 32];
     put(&mut filled_up, 0, id);
     let got = r.id;
-    r.id_length == id.len() as u64 && check::same(&got, &filled_up)
+    r.id_length == id.len() as u64 && got == filled_up
 }
 
 // Whether this text stands at the place that an answer names.
-fn has_text(r: CacheAnswer, texts: &[u8], text: &[u8]) -> bool {
+fn has_text(r: &CacheAnswer, texts: &[u8], text: &[u8]) -> bool {
     let end = wrapping_add_u64(r.text_start, r.text_length);
-    r.text_length == text.len() as u64
-        && check::same(part(texts, r.text_start as usize, end as usize), text)
+    r.text_length == text.len() as u64 && part(texts, r.text_start as usize, end as usize) == text
 }
 
 // The entry of a line whose fields 3 and 4 are domain and id.
@@ -293,7 +290,7 @@ fn at_most(n: usize, most: usize) -> usize
 fn put(out: &mut [u8], at: usize, s: &[u8]) {
     if at <= out.len() {
         if s.len() <= out.len() - at {
-            bytes::copy(s, &mut out[at..]);
+            out[at..at + s.len()].copy_from_slice(s);
         }
     }
 }
@@ -314,5 +311,5 @@ fn same_entry(a: CacheEntry, b: CacheEntry) -> bool {
     let e = b.domain;
     let i = a.id;
     let j = b.id;
-    check::same(&d, &e) && check::same(&i, &j) && a.fetched == b.fetched && a.length == b.length
+    d == e && i == j && a.fetched == b.fetched && a.length == b.length
 }

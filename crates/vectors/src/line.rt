@@ -20,7 +20,7 @@ pub(crate) const NAME: u8 = b':';
 const ARROW: u8 = b'=';
 
 // Where a field's bytes stand among the line's decoded bytes, and its value if it is a number.
-#[derive(Drop)]
+#[derive(Clone, Copy)]
 pub struct Field {
     pub start: usize,
     pub end: usize,
@@ -28,7 +28,7 @@ pub struct Field {
 }
 
 // The fields of a line, and where the last of them ends; of a broken line those before the place where it breaks.
-#[derive(Drop)]
+#[derive(Clone, Copy)]
 pub struct Fields {
     pub is_broken: bool,
     pub count: usize,
@@ -38,14 +38,14 @@ pub struct Fields {
 }
 
 // The number that some digits make, unless one of them is no digit or the number would reach 2^64.
-#[derive(Drop)]
+#[derive(Clone, Copy)]
 pub enum Decimal {
     Is(u64),
     Broken,
 }
 
 // What the next byte of a line belongs to.
-#[derive(Drop)]
+#[derive(Clone, Copy)]
 pub enum Mode {
     // the spaces before a field
     Between,
@@ -92,7 +92,7 @@ pub enum Action {
 }
 
 // How far decoding has come: where the last item starts, and where the next byte goes.
-#[derive(Drop)]
+#[derive(Clone, Copy)]
 pub struct Place {
     pub mode: Mode,
     pub item: usize,
@@ -129,7 +129,7 @@ pub(crate) fn read(line: &[u8], out: &mut [u8], from: usize) -> Fields {
 // Whether a line is whole and its fields from a up to e are of these kinds, a letter each.
 pub(crate) fn has_kinds_at(f: Fields, a: usize, e: usize, kinds: &[u8]) -> bool {
     let found = f.kinds;
-    !f.is_broken && check::same(part(&found, a, e), kinds)
+    !f.is_broken && part(&found, a, e) == kinds
 }
 
 // The kind of field k, or 0 where there is no such field.
