@@ -39,13 +39,14 @@ all: archive
 toolchain:
 	@command -v $(RT) >/dev/null 2>&1 || { echo "make: the Rattle toolchain is missing: put its command 'rt' on the PATH (README.md, \"Two commands\")" >&2; exit 1; }
 
-# Proves what has changed since the last time and writes the archive. The first time takes minutes, so rt's line for each crate is
-# shown as it comes; what the prover says besides is in the log, which is shown whole where it refuses.
+# Proves what has changed since the last time and writes the archive, that of the crate tweedstork_c. The first time takes minutes, so
+# each crate is named as it comes; what the prover says besides is in the log, which is shown whole where it refuses.
 archive: toolchain
-	@mkdir -p $(OUT)
+	@mkdir -p $(OUT) $(dir $(ARCHIVE))
 	@echo "proving the crates and building $(ARCHIVE)$$([ -e $(ARCHIVE) ] || echo '; the first time takes some minutes')"
-	@set -o pipefail; $(RT) staticlib tweedstork 2>&1 | tee $(OUT)/archive.log | sed -u -n '/^rt: [a-z]* proved/{/(unchanged since/!p;}' || \
+	@set -o pipefail; (cd crates/tweedstork_c && $(RT) lib) 2>&1 | tee $(OUT)/archive.log | sed -u -n 's/^rt: chose --jobs [0-9]* for \([a-z0-9_]*\)$$/proving \1/p' || \
 	    { status=$$?; echo "make: the archive is not built; the whole log:" >&2; cat $(OUT)/archive.log; exit $$status; }
+	@cp crates/tweedstork_c/out/libtweedstork_c.a $(ARCHIVE)
 
 # The example programs.
 examples: archive
@@ -65,10 +66,9 @@ run: examples
 # The proofs, the must-fail edits and the cases first, since the archive is then built of what they proved; then the tests in C
 # and the independent implementation. The last line is rt's once more, so that it comes only where all of them passed.
 test: toolchain
-	$(RT) fmt --check
 	@set -o pipefail; log=$$(mktemp); echo '$(RT) ci'; $(RT) ci 2>&1 | tee "$$log" || { rm -f "$$log"; exit 1; }; \
 	    mkdir -p $(OUT) && mv "$$log" $(OUT)/ci.log
-	tests/must-fail.sh
+	tests/must-fail.sh $(OUT)/ci.log
 	@$(MAKE) --no-print-directory c-tests
 	@tail -n 1 $(OUT)/ci.log
 
@@ -111,7 +111,7 @@ fuzz: archive
 
 # Both read in the environment where to.
 install:
-	@[ -e $(ARCHIVE) ] && [ -z "$$(find crates crates.txt include -newer $(ARCHIVE) -print -quit)" ] || \
+	@[ -e $(ARCHIVE) ] && [ -z "$$(find crates crates.txt include -name out -prune -o -newer $(ARCHIVE) -print -quit)" ] || \
 	    $(MAKE) --no-print-directory archive
 	@packaging/install $(ARCHIVE)
 
@@ -119,4 +119,4 @@ uninstall:
 	@packaging/install --remove
 
 clean:
-	rm -rf target
+	rm -rf target crates/*/out

@@ -6,7 +6,8 @@
 set -euo pipefail
 cd "$(dirname "$0")/.."
 header=include/tweedstork.h
-source=crates/tweedstork/src
+source=crates/tweedstork_c/src # what is exported
+library=crates/tweedstork/src
 files=$(mktemp -d)
 trap 'rm -rf "$files"' EXIT
 
@@ -89,14 +90,14 @@ source_functions() {
                 place(name, "parameter 1", "void")
         }
         {
-            marked = gsub(/#\[no_mangle\]/, "&")
-            while (match($0, /#\[no_mangle\] pub extern "C" fn [a-z0-9_]+(<[^>]*>)?\([^)]*\)( -> [A-Za-z0-9]+)?/)) {
-                one(substr($0, RSTART, RLENGTH))
+            marked = gsub(/#\[unsafe\(no_mangle\)\]/, "&")
+            while (match($0, /#\[unsafe\(no_mangle\)\] pub extern "C" fn [a-z0-9_]+(<[^>]*>)?\([^)]*\)( -> [A-Za-z0-9]+)?/)) {
+                one(substr($0, RSTART + 21, RLENGTH - 21)) # without its mark
                 $0 = substr($0, RSTART + RLENGTH)
                 understood++
             }
             if (understood != marked)
-                complain("of " marked " functions marked #[no_mangle] this test understands " understood)
+                complain("of " marked " functions marked #[unsafe(no_mangle)] this test understands " understood)
         }'
 }
 
@@ -134,7 +135,8 @@ header_functions() {
 
 # The structs that the functions name, from the crates that the source takes them from. A field is a u64 or an array of bytes.
 source_structs() { # source_structs NAMES, a | on either side of each
-    grep -ho '^use [a-z_]*::[A-Z][A-Za-z0-9]*;' $source/*.rt | while IFS=' :;' read -r _ crate _ name _; do
+    grep -ho '^use [a-z_]*::\([A-Z][A-Za-z0-9]*\|{[A-Za-z0-9, ]*}\);' $source/*.rt | tr -d '{},;' |
+        awk '{ sub(/^use /, ""); sub(/::/, " "); for (i = 2; i <= NF; i++) print $1, $i }' | while read -r crate name; do
         plain_source crates/"$crate"/src/*.rt | awk -v names="$1" -v name="$name" "$shared"'
             function field(text,   label, type) {
                 label = type = text
@@ -145,7 +147,7 @@ source_structs() { # source_structs NAMES, a | on either side of each
                 return type == "u64" ? "uint64_t " label : "uint8_t " label "[" substr(type, 6)
             }
             index(names, "|" c_struct(name) "|") == 0 { exit }
-            !match($0, "#\\[repr\\(C\\)\\] pub struct " name " [{][^}]*[}]") { complain("no #[repr(C)] pub struct " name " in its crate"); exit }
+            !match($0, "#\\[repr\\(C\\)\\] (#\\[derive\\([A-Za-z, ]*\\)\\] )?pub struct " name " [{][^}]*[}]") { complain("no #[repr(C)] pub struct " name " in its crate"); exit }
             {
                 text = substr($0, RSTART, RLENGTH)
                 gsub(/^[^{]*[{]|[}]$/, "", text)
@@ -174,10 +176,10 @@ header_structs() { # header_structs NAMES, a | on either side of each
         }'
 }
 
-# The version: a number in the source; in the header that number, and a text, major.minor.patch, that makes the same number.
+# The version: a number in the source of the library, which the export hands on; in the header that number, and a text, major.minor.patch, that makes the same number.
 source_version() {
-    plain_source $source/*.rt | awk "$shared"'
-        match($0, /fn tweedstork_version\(\)[^#]*[{] [0-9]+ [}]/) {
+    plain_source $library/*.rt | awk "$shared"'
+        match($0, /fn tweedstork_version\(\) -> u64 ensures [{][^}]*[}] [{] [0-9]+ [}]/) {
             number = substr($0, RSTART, RLENGTH - 2)
             sub(/.* /, "", number)
             place("the version", "as a number", number)

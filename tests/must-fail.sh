@@ -1,27 +1,23 @@
 #!/usr/bin/env bash
-# Each must-fail edit is refused because a fact no longer holds, and not because the proof file no longer fits the code: then the
-# first error says that there is no such need, that a proof stands where another need is asked for, or that a walk through the code
-# is not the one that the code takes, and the edit shows nothing.
-# Where the prover makes the proof itself, it says what is not proved.
-# Reads what `rt ci` or `rt must-fail` left in target/must-fail.
-# Usage: must-fail.sh
+# Each must-fail edit is refused, and because a fact no longer holds: not because the prover met a limit, and not because a proof file
+# names what the edit took away, which shows nothing. Why an edit is refused is said in the run that tries it; a later run on the same
+# machine tries only what has changed since, and counts the others.
+# Usage: must-fail.sh LOG, which has what `rt ci` said
 set -euo pipefail
+[ $# -eq 1 ] || { echo "usage: $0 LOG" >&2; exit 2; }
+log=$(realpath "$1")
 cd "$(dirname "$0")/.."
 
-edits=0 failed=0
-walk=': error: `(walk|turns|runs-all|exits)`'
+failed=0
 complain() { echo "must-fail: $1"; failed=1; }
 
-for edit in crates/*/must-fail/*.edit; do
-    crate=$(basename "$(dirname "$(dirname "$edit")")")
-    name=$crate/$(basename "$edit" .edit)
-    log=target/must-fail/$name/.log
-    edits=$((edits + 1))
-    if ! first=$(grep -m 1 -e ': error: ' -e ': it is not proved that ' "$log" 2>/dev/null); then
-        complain "$name: no error in $log"
-    elif [[ $first == *'has no `Need-'* || $first == *'expected type `tie.Need-'* || $first =~ $walk ]]; then
-        complain "$name shows nothing, since the proof doesn't fit the edited code: ${first#*: error: }"
-    fi
-done
+edits=$(find crates -path 'crates/*/must-fail/*.edit' -not -path '*/out/*' | wc -l)
+last=$(grep '^rt: ok;' "$log" || true)
+refused=$(sed -n 's/.*; must-fail edits: \([0-9]*\) refused.*/\1/p' <<<"$last")
+[ "${refused:-0}" -eq "$edits" ] || complain "of $edits edits ${refused:-none} are refused: ${last:-the log has no line 'rt: ok'}"
+[[ ! $last =~ ,\ [0-9]+\ bad|by\ a\ limit ]] || complain "$last"
+while read -r line; do
+    complain "${line#rt: must-fail }"
+done < <(grep -e '^rt: must-fail .*: BAD EDIT' -e '^rt: must-fail .*(only ' "$log" || true)
 [ "$failed" = 0 ] && echo "must-fail: $edits edits, each refused because a fact no longer holds"
 exit "$failed"

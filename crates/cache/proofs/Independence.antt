@@ -169,9 +169,9 @@ own_call d ks ih m from s sound follows (lookup clock e) same w r n =
     own_lookup d ks ih m from s sound follows clock e same w r (and_right (not (eqb (number_in (answer_to (lookup clock e) m)) 70)) (none_full (answers_for d ks m)) n)
 
 -- each call in turn
-one_more_lem : (d : List ℕ) (k : Call) (ks : List Call) → Alike d ks → Alike d (k ∷ ks)
+one_more : (d : List ℕ) (k : Call) (ks : List Call) → Alike d ks → Alike d (k ∷ ks)
 unfolding rises answers_for calls_for
-one_more_lem d k ks ih m from s sound r follows n = go (is_for d k) refl n
+one_more d k ks ih m from s sound r follows n = go (is_for d k) refl n
   where
     w : from ≤ clock_of k
     w = leb-true from (clock_of k) (and_left (leb from (clock_of k)) (rises (clock_of k) ks) r)
@@ -187,7 +187,7 @@ one_more_lem d k ks ih m from s sound r follows n = go (is_for d k) refl n
 run_alike : (d : List ℕ) (ks : List Call) → Alike d ks
 unfolding answers_for calls_for alone
 run_alike d [] m from s sound r follows n = refl
-run_alike d (k ∷ ks) m from s sound r follows n = one_more_lem d k ks (run_alike d ks) m from s sound r follows n
+run_alike d (k ∷ ks) m from s sound r follows n = one_more d k ks (run_alike d ks) m from s sound r follows n
 
 -- ---- the same calls for a domain give it the same answers
 pub same_calls_same_answers : (d : List ℕ) (m n : Memory) (js ks : List Call) → is_empty_table m ≡ true → is_empty_table n ≡ true → rises 0 js ≡ true → rises 0 ks ≡ true

@@ -8,7 +8,7 @@ use Rattle.lists.specs.Bytes.{all, any}
 use Rattle.lists.proofs.Any.{any_more}
 use Rattle.lists.proofs.Bools.{apart, and_left, and_right, and_intro, neither_left, neither_right}
 use Rattle.tlsa.specs.Record.{usage_of, selector_of, matching_type_of, usable, is_sha512, ignored, counts}
-use Rattle.tlsa.proofs.Ignored.{usable_sha512, without_sha512, any_one_more, one_more_lem, without, any_without, ignored_unchanged}
+use Rattle.tlsa.proofs.Ignored.{usable_sha512, without_sha512, any_one_more, one_more, without, any_without, ignored_unchanged}
 use Rattle.certificates.specs.Facts.{Presented}
 use Rattle.certificates.specs.Checks.{record_matches, names_reference, dane_passes}
 
@@ -82,7 +82,7 @@ module _ (refs : List (List ℕ)) (p : Presented) where
       (neither_left (any (passing (xs ++ (s ∷ ys))) (xs ++ ys)) (passing (xs ++ (s ∷ ys)) s) (sym (any_one_more (passing (xs ++ (s ∷ ys))) xs s ys) ∙ after))
     where
       for_each : (r : List ℕ) → passing (xs ++ (s ∷ ys)) r ≡ false → (not (passing (xs ++ ys) r) || eqb (matching_type_of r) 1 && is_sha512 (usage_of r) (selector_of r) s) ≡ true
-      for_each r h = go (usable r) (ignored (xs ++ ys) r) (eqb (matching_type_of r) 1 && is_sha512 (usage_of r) (selector_of r) s) (matching r) (rw (one_more_lem xs s ys r) at h)
+      for_each r h = go (usable r) (ignored (xs ++ ys) r) (eqb (matching_type_of r) 1 && is_sha512 (usage_of r) (selector_of r) s) (matching r) (rw (one_more xs s ys r) at h)
         where
           go : (u i n m : Bool) → (u && not (i || n) && m) ≡ false → (not (u && not i && m) || n) ≡ true
           go true true n m h = refl

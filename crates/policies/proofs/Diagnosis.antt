@@ -24,7 +24,7 @@ use Rattle.policies.specs.declared.PolicyAnswer.{PolicyAnswer}
 use Rattle.policies.specs.Lines.{lines, line_start}
 use Rattle.policies.specs.Fields.{name_of, value_of, is_line, is_named, any_named, is_version, mode_of, age_of, is_there, is_first, cause_after, patterns}
 use Rattle.policies.specs.Policy.{Reading, too_long, longest_body, fault_at, or_later, first_fault, body_fault, first_mode, first_age, has_patterns, complete, completed, judged, read_body, cause_number, fault_answer, answer_to, policy_answer}
-use Rattle.policies.specs.Diagnosis.{Wrong, form, version, mode, max_age, mx, Sound, one_more_lem, Begins, Offends, Means, line_form, bad_version, bad_mode, bad_max_age, bad_mx, Diagnosis, zero_bytes, offending}
+use Rattle.policies.specs.Diagnosis.{Wrong, form, version, mode, max_age, mx, Sound, one_more, Begins, Offends, Means, line_form, bad_version, bad_mode, bad_max_age, bad_mx, Diagnosis, zero_bytes, offending}
 use Rattle.policies.specs.Diagnosis as D
 use Rattle.policies.proofs.Begins.{begins_cut, begins_count, begins_start, line_begins}
 
@@ -158,7 +158,7 @@ found s earlier ls [] a g f h = never cc
 found s earlier ls (l ∷ ms) a g f h = go (cause_after earlier l) refl (found s (l ∷ earlier) (ls ++ (l ∷ [])) ms (alike_more earlier ls l a)) h
   where
     go : (o : Option Cause) → cause_after earlier l ≡ o → (Sound (ls ++ (l ∷ [])) → (k : Fault) → first_fault s (l ∷ earlier) ms ≡ some k → Found s (ls ++ (l ∷ []) ++ ms) k) → or_later s (length earlier) o (first_fault s (l ∷ earlier) ms) ≡ some f → Found s (ls ++ (l ∷ ms)) f
-    go none e ih h = rw (append_assoc ls (l ∷ []) ms) at (ih (one_more_lem g (none_wrong ls l (sym (cause_alike earlier ls l a) ∙ e))) f h)
+    go none e ih h = rw (append_assoc ls (l ∷ []) ms) at (ih (one_more g (none_wrong ls l (sym (cause_alike earlier ls l a) ∙ e))) f h)
     go (some c) e ih h =
         record {
           before = ls;
@@ -183,7 +183,7 @@ one_on s earlier l ms h = rw h
 
 passed : (s : List ℕ) (ls : List (List ℕ)) → Sound ls → Passed s ls
 passed s ls D.none = record { earlier = []; alike = record { named = λ name. refl; count = refl }; goes_on = λ ms. refl }
-passed s ls (one_more_lem {ls = ks} {l} g w) = go (passed s ks g)
+passed s ls (one_more {ls = ks} {l} g w) = go (passed s ks g)
   where
     go : Passed s ks → Passed s (ks ++ (l ∷ []))
     go p =

@@ -81,18 +81,18 @@ no_cr l f h = line_lacks CR refl refl refl refl l f h
 Reads : List (List ℕ) → List Pair → Type 0
 Reads ls fs = (all is_line ls ≡ true) × (map pair_of ls ≡ fs)
 
-one_more_lem : (l : List ℕ) (ls ms : List (List ℕ)) (f : Pair) (fs : List Pair) → Line l f → ms ≡ l ∷ ls → Reads ls fs → Reads ms (f ∷ fs)
+one_more : (l : List ℕ) (ls ms : List (List ℕ)) (f : Pair) (fs : List Pair) → Line l f → ms ≡ l ∷ ls → Reads ls fs → Reads ms (f ∷ fs)
 unfolding Reads all
-one_more_lem l ls ms f fs h e ih =
+one_more l ls ms f fs h e ih =
     let k = line_read l f h in
     (rw (e, k.0) ih.0, rw (e, k.1, ih.1))
 
 body_reads : (s : List ℕ) (fs : List Pair) → Body s fs → Reads (lines s) fs
 unfolding Reads lines all
 body_reads s fs nothing = (refl, refl)
-body_reads s fs (last {l} {f} h) = one_more_lem l [] (lines l) f [] h (line_last l (line_some l f h) (no_lf l f h)) (refl, refl)
-body_reads s fs (lf {l} {s = t} {f} {fs = gs} h b) = one_more_lem l (lines t) (lines s) f gs h (line_lf l t (no_lf l f h) (clean_end l (no_cr l f h))) (body_reads t gs b)
-body_reads s fs (crlf {l} {s = t} {f} {fs = gs} h b) = one_more_lem l (lines t) (lines s) f gs h (line_crlf l t (no_lf l f h)) (body_reads t gs b)
+body_reads s fs (last {l} {f} h) = one_more l [] (lines l) f [] h (line_last l (line_some l f h) (no_lf l f h)) (refl, refl)
+body_reads s fs (lf {l} {s = t} {f} {fs = gs} h b) = one_more l (lines t) (lines s) f gs h (line_lf l t (no_lf l f h) (clean_end l (no_cr l f h))) (body_reads t gs b)
+body_reads s fs (crlf {l} {s = t} {f} {fs = gs} h b) = one_more l (lines t) (lines s) f gs h (line_crlf l t (no_lf l f h)) (body_reads t gs b)
 
 pub body_read : (s : List ℕ) (fs : List Pair) → Body s fs → (all is_line (lines s) ≡ true) × (map pair_of (lines s) ≡ fs)
 unfolding Reads

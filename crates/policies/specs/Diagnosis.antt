@@ -19,7 +19,7 @@ pub data Wrong (earlier : List (List ℕ)) (l : List ℕ) : Cause → Type 0 whe
 -- lines with nothing wrong, each after those before it
 pub data Sound : List (List ℕ) → Type 0 where
   none : Sound []
-  one_more_lem : {ls : List (List ℕ)} {l : List ℕ} → Sound ls → ((cause : Cause) → Wrong ls l cause → ⊥) → Sound (ls ++ (l ∷ []))
+  one_more : {ls : List (List ℕ)} {l : List ℕ} → Sound ls → ((cause : Cause) → Wrong ls l cause → ⊥) → Sound (ls ++ (l ∷ []))
 
 -- how many LF a list has
 unfoldable pub count_lf : List ℕ → ℕ

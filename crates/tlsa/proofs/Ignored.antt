@@ -99,9 +99,9 @@ any_one_more p (x ∷ xs) s ys = rw (any_one_more p xs s ys) (sym (or_assoc (p x
 
 -- One record more in a set, at whatever place: where it is a usable SHA-512 record, the SHA-256 records of its usage and selector are ignored, and nothing else
 -- changes.
-pub one_more_lem : (xs : List (List ℕ)) (s : List ℕ) (ys : List (List ℕ)) (r : List ℕ) → ignored (xs ++ (s ∷ ys)) r ≡ (ignored (xs ++ ys) r || eqb (matching_type_of r) 1 && is_sha512 (usage_of r) (selector_of r) s)
+pub one_more : (xs : List (List ℕ)) (s : List ℕ) (ys : List (List ℕ)) (r : List ℕ) → ignored (xs ++ (s ∷ ys)) r ≡ (ignored (xs ++ ys) r || eqb (matching_type_of r) 1 && is_sha512 (usage_of r) (selector_of r) s)
 unfolding ignored
-one_more_lem xs s ys r = rw (any_one_more (is_sha512 (usage_of r) (selector_of r)) xs s ys) (and-or_distrib_left (eqb (matching_type_of r) 1) (any (is_sha512 (usage_of r) (selector_of r)) (xs ++ ys)) (is_sha512 (usage_of r) (selector_of r) s))
+one_more xs s ys r = rw (any_one_more (is_sha512 (usage_of r) (selector_of r)) xs s ys) (and-or_distrib_left (eqb (matching_type_of r) 1) (any (is_sha512 (usage_of r) (selector_of r)) (xs ++ ys)) (is_sha512 (usage_of r) (selector_of r) s))
 
 -- The order of a set's records does not matter: any two that stand side by side may be exchanged.
 pub order : (xs : List (List ℕ)) (r s : List ℕ) (ys : List (List ℕ)) (x : List ℕ) → ignored (xs ++ (r ∷ s ∷ ys)) x ≡ ignored (xs ++ (s ∷ r ∷ ys)) x
@@ -180,7 +180,7 @@ ignored_unchanged set r = ap (λ (b : Bool). eqb (matching_type_of r) 1 && b) (k
 
 -- Beside a usable record of type 2 with its usage and selector, at whatever place, a record of type 1 does not count.
 pub beside_sha512 : (xs : List (List ℕ)) (s : List ℕ) (ys : List (List ℕ)) (r : List ℕ) → usable s ≡ true → matching_type_of s ≡ 2 → usage_of s ≡ usage_of r → selector_of s ≡ selector_of r → matching_type_of r ≡ 1 → counts (xs ++ (s ∷ ys)) r ≡ false
-beside_sha512 xs s ys r u t e f z = rw (one_more_lem xs s ys r, sha512_apart (usage_of r) (selector_of r) s, u, t, e, f, z, eq-eqb (usage_of r) (usage_of r) refl, eq-eqb (selector_of r) (selector_of r) refl, or-true (ignored (xs ++ ys) r)) (and-false (usable r))
+beside_sha512 xs s ys r u t e f z = rw (one_more xs s ys r, sha512_apart (usage_of r) (selector_of r) s, u, t, e, f, z, eq-eqb (usage_of r) (usage_of r) refl, eq-eqb (selector_of r) (selector_of r) refl, or-true (ignored (xs ++ ys) r)) (and-false (usable r))
 
 -- The limits of a set hold without its ignored records, and in another order.
 all_without : (p q : List ℕ → Bool) (xs : List (List ℕ)) → all q xs ≡ true → all q (without p xs) ≡ true
