@@ -91,6 +91,7 @@ check_words_of_crates() {
         <({
             grep -rohE --exclude-dir=out --include='*.antt' --include='*.rt' '[A-Za-z][A-Za-z0-9_]*' crates
             find crates -name '*.edit' | sed -e 's/.*\///' -e 's/\.edit$//'
+            ls crates
         } | sort -u))
     [ -z "$unknown" ] || complain "no crate has ${unknown//$'\n'/, }"
     checked=$((checked + 1))

@@ -70,7 +70,7 @@ def in_comment(text, becomes):
 def main():
     crates = [line.split(":")[0].split()[0] for line in read("crates.txt").splitlines() if ":" in line]
     files = [p for p in sorted(glob.glob("crates/*/*/**/*.antt", recursive=True)) if "/out/" not in p]
-    laws = [p for p in files if os.path.basename(p) not in ("Proof.antt", "Answers.antt", "Invariants.antt")]
+    laws = [p for p in files if os.path.basename(os.path.dirname(p)) in ("specs", "proofs")]
     code = {p: code_of(p) for p in files}
     own = collections.defaultdict(set)
     for p in laws:

@@ -26,7 +26,7 @@ use Rattle.certificates.specs.Facts.{certificate_at, certificates_of, when, comm
 use Rattle.certificates.specs.Limits.{chain_keeps_limits, keeps_limits, one_for_each, chain_fits, names_fit, facts_fit}
 use Rattle.certificates.proofs.Written.{name_of, facts_limits}
 use Rattle.hosts.specs.declared.HostAnswer.{HostAnswer}
-use Rattle.hosts.specs.Facts.{Handshake, established, failed, tlsa, first, second, starttls, handshake, certificates, given}
+use Rattle.hosts.specs.Facts.{Handshake, established, failed, tlsa, first, second, starttls, handshake, certificates}
 use Rattle.hosts.specs.Arguments.{Arguments, origin_of, address_of, is_alias, lookup_of, outcome_of, base_of, presented_in, facts_of}
 use Rattle.hosts.specs.Call.{if_supplied, version_fits, codes_fit, clocks_fit, next_hops_fit, host_fits, host_names_fit, policy_fits, answers_fit, certificates_fit, checks, refused, checked, walked, host_answer}
 use Rattle.hosts.specs.Demands.{is_refusal, IsPassed}

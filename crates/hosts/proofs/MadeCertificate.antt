@@ -1,7 +1,7 @@
 -- Certificate facts that a usable record matches, inside the limits. Assumes nothing.
 use Prim.Native.Nat.{ℕ, ◌+◌, ◌≤◌}
 use mathlib.Core.Path.{◌≡◌, refl, sym, ◌∙◌, ap}
-use mathlib.Core.Bool.{Bool, true, false, not, cond, ◌&&◌, ◌||◌}
+use mathlib.Core.Bool.{Bool, true, false, cond, ◌&&◌, ◌||◌}
 use mathlib.Core.List.{List, [], ◌∷◌}
 use mathlib.Core.Option.{Option, none}
 use native.Mathlib.Omega.{arith}
@@ -10,7 +10,7 @@ use lib.ListN.{length, take, replicate}
 use lib.Seq.{take_all}
 use borrow.Author.Tests.{le-leb, ne_eqb, eqb-true, eqb-false}
 use Rattle.lists.specs.Bytes.{all, any, is_bytes}
-use Rattle.lists.proofs.Bools.{apart, and_right, and_intro, or_left, or_right}
+use Rattle.lists.proofs.Bools.{apart, and_intro, or_left, or_right}
 use Rattle.lists.proofs.Agree.{bytes_self, text_self}
 use Rattle.numbers.specs.Pieces.{up_to}
 use Rattle.names.specs.Name.{is_name, matches_name}

@@ -10,7 +10,7 @@ use Rattle.tlsa.specs.declared.Address.{Address}
 use Rattle.tlsa.specs.declared.Address.TheVariants.{NoAliasSecure, NoAliasInsecure, AliasSecure, AliasFirstStepSecure, AliasFirstStepInsecure, Failed, NoAddress}
 use Rattle.tlsa.specs.Address.{TlsaName, expanded_name, host_name, question_of, names, names_to_try}
 use Rattle.tlsa.specs.Record.{usable}
-use Rattle.tlsa.specs.Answer.{Answer, secure, failed, secure_records, read_of}
+use Rattle.tlsa.specs.Answer.{Answer, secure, secure_records, read_of}
 use Rattle.certificates.specs.Checks.{references, dane_passes}
 use Rattle.verdicts.specs.Verdicts.{is_delivery}
 use Rattle.hosts.specs.Facts.{Base, Handshake, established, Place, first, second, tlsa, Full, value}

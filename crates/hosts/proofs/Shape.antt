@@ -15,7 +15,7 @@ use Rattle.tlsa.specs.Answer.{Answer}
 use Rattle.verdicts.specs.Verdicts.{is_delivery, is_next_host, is_verdict}
 use Rattle.verdicts.proofs.Ranges.{verdict_no_middle, verdict_below}
 use Rattle.hosts.specs.Facts.{Base, Handshake, established, failed, Place, first, second, Facts}
-use Rattle.hosts.specs.Tree.{Rules, verdict, walk, answers_read, final}
+use Rattle.hosts.specs.Tree.{Rules, walk, answers_read, final}
 use Rattle.hosts.specs.Rules.{is_old, needs_mta_sts, is_listed, mta_sts_passes, Taken, nothing, set, needs_dane, needs_authentication, needs_anything, taken_passes, last_verdict, after_handshake, connect, domain_of, seek, start, rules}
 use Rattle.hosts.specs.Demands.{is_refusal}
 use Rattle.lists.proofs.Bools.{apart, and_left, and_right, by_cond}

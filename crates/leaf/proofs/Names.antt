@@ -1,18 +1,17 @@
 -- The loops over DNS-IDs. Assumes nothing.
 use Prim.Native.Nat.{ℕ, zero, suc, ◌+◌, ◌-◌, ◌%◌, ◌^◌, ◌<◌, ◌≤◌}
 use mathlib.Core.Path.{◌≡◌, refl, sym, ap, subst, ◌∙◌}
-use mathlib.Core.Bool.{Bool, true, false, cond}
+use mathlib.Core.Bool.{Bool, true, false}
 use mathlib.Core.List.{List, [], ◌∷◌}
 use native.Mathlib.Omega.{arith}
 use borrow.Author.Rules.{rules}
 use borrow.Author.Tests.{eq-eqb, ne_eqb, ltb-true, ltb-false, eqb-true, eqb-false}
 use lib.Dec.{eqb, ltb}
-use lib.ListN.{length, get_or, take, drop}
+use lib.ListN.{length, get_or, drop}
 use Rattle.lists.proofs.Bools.{never}
 use Rattle.der.specs.declared.Head.{Head}
 use Rattle.der.specs.declared.Header.{Header}
 use Rattle.der.specs.Header.{header}
-use Rattle.der.specs.Elements.{elements}
 use Rattle.der.proofs.Heads.{opens_bounds, end_inside, header_short, header_small}
 use Rattle.der.proofs.Elements.{elements_end, elements_none, elements_next, element_further, element_less}
 use Rattle.reader.specs.declared.Step.{Step}
@@ -20,7 +19,7 @@ use Rattle.reader.specs.Read.{step_at}
 use Rattle.reader.proofs.Moves.{step_ends, step_breaks, step_opens}
 use Rattle.x509.specs.declared.Part.{Part}
 use Rattle.x509.specs.declared.Name.{Name}
-use Rattle.leaf.specs.Names.{dns_name, contents, dns_names, dns_ids_from, first_of}
+use Rattle.leaf.specs.Names.{dns_name, dns_names, dns_ids_from, first_of}
 
 -- the DNS-IDs from a place on, by the element that stands there
 module _ (s : List ℕ) (i : ℕ) where

@@ -5,7 +5,6 @@ use Rattle.numbers.specs.Numbers.{eight}
 use Rattle.x509.specs.declared.Part.{Part}
 use Rattle.x509.specs.declared.Name.{Name}
 use Rattle.x509.specs.declared.Name.TheVariants.{Given, Absent}
-use Rattle.x509.specs.declared.Found.{Found}
 use Rattle.x509.specs.declared.Fields.{Fields}
 use Rattle.x509.specs.Found.{fields_of}
 use Rattle.leaf.specs.declared.Reading.{Reading}

@@ -1,18 +1,18 @@
 -- The returns of the functions that take a field or a line. Assumes nothing.
-use Prim.Native.Nat.{ℕ, zero, suc, ◌+◌, ◌-◌, ◌<◌, ◌≤◌}
+use Prim.Native.Nat.{ℕ, ◌+◌, ◌-◌, ◌<◌, ◌≤◌}
 use mathlib.Core.Path.{◌≡◌, refl, sym, ◌∙◌}
-use mathlib.Core.Bool.{Bool, true, false, cond, not, ◌&&◌, and-false, and-true}
-use mathlib.Core.List.{List, [], ◌∷◌}
+use mathlib.Core.Bool.{Bool, true, false, cond, not, ◌&&◌, and-false}
+use mathlib.Core.List.{List}
 use mathlib.Core.Option.{Option, none, some}
 use native.Mathlib.Omega.{arith}
 use lib.Dec.{eqb, leb}
 use lib.ListN.{length, get_or, take, drop, length-drop}
-use lib.Seq.{drop-drop, length-take-le, get_or-take, get_or-drop}
+use lib.Seq.{drop-drop, get_or-take, get_or-drop}
 use borrow.Author.Rules.{rules}
 use borrow.Author.Tests.{not-true, not-false, ne_eqb, leb-true}
 use Rattle.lists.specs.Bytes.{all}
 use Rattle.lists.specs.Equal.{same_bytes}
-use Rattle.lists.specs.Span.{span_of, trimmed_length}
+use Rattle.lists.specs.Span.{span_of}
 use Rattle.lists.specs.Split.{index_of}
 use Rattle.lists.specs.Text.{text}
 use Rattle.lists.proofs.Laws.{take_rest}

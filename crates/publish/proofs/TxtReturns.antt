@@ -1,5 +1,5 @@
 -- What `write_txt` returns and leaves, path by path. Assumes nothing.
-use Prim.Native.Nat.{ℕ, ◌+◌, ◌-◌, ◌<◌, ◌≤◌}
+use Prim.Native.Nat.{ℕ, ◌+◌, ◌<◌, ◌≤◌}
 use mathlib.Core.Path.{◌≡◌, refl, sym, ◌∙◌}
 use mathlib.Core.Bool.{Bool, true, false}
 use mathlib.Core.List.{List, ◌++◌}
@@ -10,7 +10,6 @@ use borrow.Author.Rules.{rules}
 use borrow.Author.Tests.{not-true, not-false}
 use Rattle.lists.specs.Text.{text}
 use Rattle.lists.specs.Check.{refusal_of}
-use Rattle.policies.specs.declared.Mode.TheVariants as M
 use Rattle.txt.specs.Paper.{is_id}
 use Rattle.txt.proofs.Paper.{id_parts}
 use Rattle.writing.specs.declared.WriteAnswer.{WriteAnswer}

@@ -1,9 +1,8 @@
 -- TXT texts and policy bodies, worked by computing: the definitions write what RFC 8461 prints and document 02, No. 5, says. Assumes nothing.
 use Prim.Native.Char.{code}
-use Prim.Native.Nat.{ℕ, ◌+◌}
+use Prim.Native.Nat.{ℕ}
 use mathlib.Core.Path.{◌≡◌, refl}
 use mathlib.Core.List.{List, [], ◌∷◌, ◌++◌, map, flatten}
-use mathlib.Core.Option.{none}
 use lib.ListN.{length, take, replicate}
 use Rattle.lists.specs.Bytes.{all, any}
 use Rattle.lists.specs.Check.{refusal_of}

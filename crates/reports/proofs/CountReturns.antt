@@ -6,7 +6,7 @@ use mathlib.Core.List.{List}
 use mathlib.Core.Option.{Option, none, some}
 use native.Mathlib.Nat.{zero-add}
 use native.Mathlib.Omega.{arith}
-use lib.Dec.{leb, ltb}
+use lib.Dec.{leb}
 use lib.ListN.{length}
 use borrow.Author.Rules.{rules}
 use borrow.Author.Tests.{not-true, not-false, le-leb, lt-leb, lt-ltb, le-ltb, eq-eqb, ne_eqb, leb-false}
@@ -16,7 +16,7 @@ use Rattle.verdicts.specs.Verdicts.{is_verdict}
 use Rattle.writing.specs.declared.WriteAnswer.{WriteAnswer}
 use Rattle.writing.specs.Answer.{refusal, success, answer_unless, unless_refused}
 use Rattle.writing.specs.Over.{over}
-use Rattle.reports.specs.Counts.{Result, result_of, place_of, count_at, total_of, one_more}
+use Rattle.reports.specs.Counts.{Result, result_of, count_at, total_of, one_more}
 use Rattle.reports.specs.Calls.{most_sessions, has_room, count_checks, report_count_answer, with_session, counts_after, failures_of}
 use Rattle.reports.specs.Steps.{place_in, capped}
 use Rattle.reports.proofs.Counts.{total_parts}

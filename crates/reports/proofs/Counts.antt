@@ -1,7 +1,7 @@
 -- Laws of the four counts: what is written at a place is read there, and the others stay. Assumes nothing.
 use Prim.Native.Nat.{ℕ, zero, suc, ◌+◌, ◌*◌, ◌^◌, ◌<◌, ◌≤◌}
 use mathlib.Core.Path.{◌≡◌, refl, sym, ap, ◌∙◌}
-use mathlib.Core.List.{List, [], ◌∷◌}
+use mathlib.Core.List.{List}
 use native.Mathlib.Omega.{arith}
 use lib.ListN.{length, get_or, take, drop}
 use borrow.Author.Rules.{rules}
@@ -11,7 +11,7 @@ use Rattle.numbers.specs.Numbers.{sum, eight}
 use Rattle.numbers.proofs.Written.{eight_value}
 use Rattle.writing.specs.Over.{over}
 use Rattle.writing.proofs.Over.{over_length, over_there, over_before, over_after}
-use Rattle.reports.specs.Counts.{count_at, counts_of, total_of, one_more}
+use Rattle.reports.specs.Counts.{count_at, counts_of, total_of}
 use Rattle.reports.specs.Calls.{failures_of}
 
 -- `count_at`: a to h are the bytes from i on

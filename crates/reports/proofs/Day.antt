@@ -1,20 +1,16 @@
 -- A day's history: from all zeros each count is the number of its verdicts, and once 1,000,000,000 are counted the next is refused. The verdicts stand here once more, as
 -- literals. Assumes nothing.
-use Prim.Native.Nat.{ℕ, ◌+◌, ◌*◌, ◌^◌, ◌<◌, ◌≤◌}
+use Prim.Native.Nat.{ℕ, ◌+◌, ◌^◌, ◌<◌, ◌≤◌}
 use mathlib.Core.Path.{◌≡◌, refl, sym, ap, ◌∙◌}
-use mathlib.Core.Bool.{Bool, true, false, cond}
+use mathlib.Core.Bool.{true}
 use mathlib.Core.List.{List, [], ◌∷◌, ◌++◌}
 use mathlib.Core.Option.{Option, none, some}
 use native.Mathlib.Nat.{add-zero, zero-add, add_assoc}
 use native.Mathlib.Omega.{arith}
-use lib.Dec.{eqb}
-use lib.ListN.{length, take, drop}
-use Rattle.lists.specs.Numerals.{value_of}
+use lib.ListN.{length}
 use Rattle.lists.specs.Write.{wrote_front}
-use Rattle.lists.proofs.Bools.{never}
 use Rattle.numbers.specs.Numbers.{sum, eight}
 use Rattle.numbers.proofs.Written.{eight_value}
-use Rattle.writing.specs.declared.WriteAnswer.{WriteAnswer}
 use Rattle.writing.specs.Answer as Answer
 use Rattle.writing.specs.Over.{over}
 use Rattle.reports.specs.Counts.{Result, success, dnssec_invalid, starttls_not_supported, validation_failure, result_of, place_of, count_at, counts_of, total_of, one_more}

@@ -1,7 +1,7 @@
 -- Each number is answered exactly where document 02, No. 9, says, and what is changed then: the numbers, places and limits stand here once more, as literals. Assumes nothing.
 use Prim.Native.Nat.{ℕ, ◌+◌, ◌*◌, ◌≤◌}
 use mathlib.Core.Path.{◌≡◌, refl, sym, ap, ◌∙◌}
-use mathlib.Core.Bool.{Bool, true, false, cond, not, ◌&&◌, ◌||◌}
+use mathlib.Core.Bool.{Bool, true, false, cond, not, ◌&&◌}
 use mathlib.Core.List.{List, [], ◌∷◌}
 use mathlib.Core.Option.{Option, none, some}
 use native.Mathlib.Omega.{arith}
@@ -13,14 +13,13 @@ use Rattle.lists.specs.Check.{refusal_of}
 use Rattle.lists.proofs.Bools.{never}
 use Rattle.numbers.specs.Numbers.{eight}
 use Rattle.verdicts.specs.Verdicts.{is_verdict}
-use Rattle.writing.specs.declared.WriteAnswer.{WriteAnswer}
 use Rattle.writing.specs.Answer.{answer_unless, unless_refused, write_refusal, write_answer}
 use Rattle.writing.specs.Over.{over}
 use Rattle.writing.proofs.Written.{Wrote, wrote, not_written}
-use Rattle.reports.specs.Counts.{Result, success, dnssec_invalid, starttls_not_supported, validation_failure, result_of, place_of, count_at, total_of, one_more}
+use Rattle.reports.specs.Counts.{Result, result_of, place_of, count_at, total_of, one_more}
 use Rattle.reports.specs.Calls.{has_room, count_checks, report_count_answer, with_session, counts_after, summary_text, failures_of, summary_of, summary_checks, report_summary_answer, report_summary_output}
 use Rattle.reports.specs.Day.{is_one_of}
-use Rattle.reports.proofs.Counts.{total_is, total_parts}
+use Rattle.reports.proofs.Counts.{total_is}
 use Rattle.reports.proofs.Results.{here, counts, verdict_numbers, here_success, here_dnssec, here_starttls, here_validation, here_counted}
 use Rattle.reports.proofs.Session.{uncounted_stays}
 use Rattle.reports.proofs.Day.{counted_verdicts}

@@ -1,5 +1,5 @@
 -- A reader that looks for a member of the JSON by its name, and takes the digits after it, finds the two numbers in the summary. Assumes nothing.
-use Prim.Native.Nat.{ℕ, ◌+◌, ◌≤◌}
+use Prim.Native.Nat.{ℕ, ◌+◌}
 use mathlib.Core.Path.{◌≡◌, refl, ap, ◌∙◌}
 use mathlib.Core.Bool.{Bool, true, false, cond, ◌&&◌}
 use mathlib.Core.List.{List, [], ◌∷◌, ◌++◌}
@@ -14,7 +14,6 @@ use Rattle.lists.proofs.Bools.{and_left, and_right}
 use Rattle.lists.proofs.Laws.{within_true}
 use Rattle.writing.specs.Decimal.{decimal}
 use Rattle.writing.proofs.Digits.{decimal_digits, decimal_reads}
-use Rattle.writing.proofs.Written.{Wrote}
 use Rattle.reports.specs.Counts.{count_at}
 use Rattle.reports.specs.Calls.{summary_text, report_summary_answer, report_summary_output}
 use Rattle.reports.proofs.Exactly.{summary_wrote}

@@ -1,25 +1,20 @@
 -- What one session does to the counts. Assumes nothing.
 use Prim.Native.Nat.{ℕ, ◌+◌, ◌*◌, ◌^◌, ◌<◌, ◌≤◌}
-use mathlib.Core.Path.{◌≡◌, refl, sym, ap, ◌∙◌}
-use mathlib.Core.Bool.{Bool, true, false, cond, ◌||◌, or-true}
+use mathlib.Core.Path.{◌≡◌, refl, sym, ◌∙◌}
+use mathlib.Core.Bool.{Bool, true, false, cond}
 use mathlib.Core.List.{List}
 use mathlib.Core.Option.{Option, none, some}
 use native.Mathlib.Nat.{add-zero}
 use native.Mathlib.Omega.{arith}
-use lib.Dec.{eqb, leb, ltb}
+use lib.Dec.{eqb, ltb}
 use lib.ListN.{length}
-use borrow.Author.Tests.{le-leb, lt-leb, lt-ltb, le-ltb, eq-eqb, eqb-true, eqb-false, ltb-true, ltb-false}
-use Rattle.lists.specs.Bytes.{within}
+use borrow.Author.Tests.{le-leb, lt-ltb, le-ltb, eq-eqb, eqb-true, eqb-false, ltb-true, ltb-false}
 use Rattle.lists.specs.Check.{refusal_of}
-use Rattle.lists.proofs.Bools.{never}
-use Rattle.verdicts.specs.Verdicts.{is_delivery, is_next_host, is_verdict}
 use Rattle.writing.specs.Answer.{refusal, success, answer_unless, unless_refused}
 use Rattle.reports.specs.Counts.{Result, result_of, place_of, count_at, total_of, one_more}
 use Rattle.reports.specs.Calls.{most_sessions, has_room, count_checks, report_count_answer, with_session, counts_after}
-use Rattle.reports.specs.Day.{is_one_of}
 use Rattle.reports.proofs.Counts.{put_size, put_there, put_after, put_before, count_most}
-use Rattle.reports.proofs.Places.{place_most}
-use Rattle.reports.proofs.Results.{here, counts, verdict_counted}
+use Rattle.reports.proofs.Results.{verdict_counted}
 
 -- one more at a place: that count is one more, and every other as it was; the size stays
 module _ (s : List ℕ) (k : ℕ) (few : k ≤ 3) (size : length s ≡ 32) where

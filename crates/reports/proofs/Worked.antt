@@ -1,20 +1,18 @@
 -- Document 02's example, a day of sessions, and limits, by computation. Assumes nothing.
 use mathlib.Core.Path.{◌≡◌, refl}
-use mathlib.Core.Bool.{cond}
 use mathlib.Core.List.{[], ◌∷◌, ◌++◌}
 use lib.ListN.{length, replicate}
-use Rattle.lists.specs.Bytes.{any}
 use Rattle.lists.specs.Check.{refusal_of}
 use Rattle.lists.specs.Numerals.{value_of}
 use Rattle.lists.specs.Text.{text}
 use Rattle.lists.specs.Write.{wrote_front}
 use Rattle.numbers.specs.Numbers.{sum, eight}
 use Rattle.verdicts.specs.Verdicts.{is_delivery, is_next_host}
-use Rattle.writing.specs.Answer.{refusal, success, answer_unless, unless_refused, write_refusal, write_answer, write_output}
+use Rattle.writing.specs.Answer.{refusal, success, answer_unless, unless_refused, write_refusal, write_output}
 use Rattle.writing.specs.Decimal.{decimal, decimal_in}
 use Rattle.writing.specs.Over.{over}
 use Rattle.reports.specs.Counts.{result_of, place_of, count_at, counts_of, total_of, one_more}
-use Rattle.reports.specs.Calls.{has_room, count_checks, report_count_answer, with_session, counts_after, summary_text, failures_of, summary_checks, report_summary_answer, report_summary_output}
+use Rattle.reports.specs.Calls.{has_room, count_checks, report_count_answer, with_session, counts_after, summary_text, failures_of, summary_checks, report_summary_output}
 use Rattle.reports.specs.Day.{zeros, day_after}
 
 -- for 5 and 2

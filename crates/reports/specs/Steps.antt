@@ -1,7 +1,7 @@
 -- How the code goes: numbers that its functions hand to each other. No promise of a call cites it.
 use Rattle.std.specs.Prelude.{ℕ, cond, leb}
 use Rattle.std.proofs.Math.Option.{Option, none, some}
-use Rattle.reports.specs.Counts.{Result, result_of, place_of}
+use Rattle.reports.specs.Counts.{Result, place_of}
 use Rattle.reports.specs.Calls.{most_sessions}
 
 -- the place of a count, and 4 for none

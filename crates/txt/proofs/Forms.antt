@@ -1,23 +1,21 @@
 -- Laws of the grammar, and what stands at a place of a text: the returns of `step_at`. Assumes nothing.
 use Prim.Native.Nat.{ℕ, zero, suc, ◌+◌, ◌-◌, ◌<◌, ◌≤◌}
 use mathlib.Core.Path.{◌≡◌, refl, sym, ap, ◌∙◌}
-use mathlib.Core.Bool.{Bool, true, false, cond, ◌||◌, and-true}
+use mathlib.Core.Bool.{true, false, and-true}
 use mathlib.Core.List.{List, [], ◌∷◌}
 use mathlib.Core.Option.{none, some}
 use native.Mathlib.Omega.{arith}
-use lib.Dec.{eqb, leb, ltb}
+use lib.Dec.{eqb, ltb}
 use lib.ListN.{length, get_or, take, drop, length-drop, drop_of_length-le}
 use lib.Seq.{drop-drop, length-take-le}
 use borrow.Author.Rules.{rules}
-use borrow.Author.Tests.{lt-ltb, le-ltb, le-leb, leb-true, eq-eqb, ne_eqb}
-use Rattle.lists.specs.Bytes.{within}
+use borrow.Author.Tests.{lt-ltb, le-ltb, eq-eqb, ne_eqb}
 use Rattle.lists.specs.Span.{span_of, begins}
-use Rattle.lists.proofs.Bools.{and_left, and_right}
-use Rattle.lists.proofs.Laws.{drop_next, take_rest}
+use Rattle.lists.proofs.Laws.{drop_next}
 use Rattle.lists.proofs.Span.{span_le}
 use Rattle.fields.specs.declared.Field as F
 use Rattle.fields.specs.Blank.{blank, after_blanks}
-use Rattle.fields.specs.Name.{letter_or_digit, has_name, field_at}
+use Rattle.fields.specs.Name.{has_name, field_at}
 use Rattle.fields.proofs.Name.{named_has, named_place, named_inside, named_before, named_rest, malformed_has}
 use Rattle.txt.specs.declared.Step.{Step}
 use Rattle.txt.specs.Paper.{value_byte}

@@ -1,24 +1,22 @@
 -- The character strings of an RDATA: their laws, and the turns of the loops over them. Assumes nothing.
 use Prim.Native.Nat.{ℕ, zero, suc, ◌+◌, ◌-◌, ◌<◌, ◌≤◌}
 use mathlib.Core.Path.{◌≡◌, refl, sym, ap, ◌∙◌}
-use mathlib.Core.Bool.{Bool, true, false, ◌&&◌, and-true, and-false}
+use mathlib.Core.Bool.{Bool, true, false, ◌&&◌, and-false}
 use mathlib.Core.List.{List, [], ◌∷◌, ◌++◌, flatten}
 use native.Mathlib.Omega.{arith}
 use lib.Dec.{eqb, leb}
 use lib.ListN.{length, get_or, take, drop, length-append, length-drop, drop_of_length-le}
 use lib.Seq.{drop-drop, drop-nil, take-nil, length-take-le}
 use borrow.Author.Rules.{rules}
-use borrow.Author.Tests.{lt-ltb, le-ltb, le-leb, lt-leb, eq-eqb, ne_eqb, eqb-true}
+use borrow.Author.Tests.{lt-ltb, le-ltb, le-leb, lt-leb, eq-eqb, ne_eqb}
 use Rattle.lists.specs.Equal.{agree, same_byte}
 use Rattle.lists.specs.Span.{begins}
 use Rattle.lists.specs.Text.{text}
-use Rattle.lists.proofs.Bools.{and_left, and_right}
 use Rattle.lists.proofs.Laws.{drop_next, take_rest}
 use Rattle.numbers.specs.Pieces.{end_of}
 use Rattle.numbers.proofs.Pieces.{end_take, end_drop, end_after, end_within}
 use Rattle.txt.specs.Rdata.{strings_in, strings, fit_in, strings_fit, is_rdata, joined}
 use Rattle.txt.specs.Txt.{is_candidate}
-use Rattle.lists.proofs.Bools.{never}
 
 -- ---- the strings one by one: the bound on how many are read is large enough
 

@@ -2,7 +2,6 @@
 use Rattle.std.specs.Prelude.{ℕ, ◌+◌, ◌-◌, ◌<◌, ◌≤◌, ◌≡◌, Bool, true, false, cond, ◌&&◌, List, [], ◌∷◌, map, eqb, length, take, drop}
 use Rattle.std.proofs.Math.Option.{Option, none, some}
 use Rattle.lists.specs.Bytes.{all}
-use Rattle.lists.specs.Span.{span_of}
 use Rattle.numbers.specs.Numbers.{numbers, sum}
 use Rattle.numbers.specs.Pieces.{cut}
 use Rattle.txt.specs.declared.TxtAnswer.{TxtAnswer}

@@ -1,5 +1,5 @@
 -- The ways out of the functions that see the usual shape of a certificate. Assumes nothing.
-use Prim.Native.Nat.{ℕ, zero, suc, ◌+◌, ◌-◌, ◌<◌, ◌≤◌}
+use Prim.Native.Nat.{ℕ, zero, suc, ◌-◌, ◌<◌, ◌≤◌}
 use mathlib.Core.Path.{◌≡◌, refl, sym, ap, subst, ◌∙◌}
 use mathlib.Core.Bool.{Bool, true, false, cond}
 use mathlib.Core.List.{List}
@@ -9,7 +9,7 @@ use borrow.Author.Tests.{eq-eqb, ne_eqb, eqb-true, not-true, not-false}
 use lib.Dec.{eqb}
 use lib.ListN.{length, take, drop}
 use lib.Seq.{take_all, length-take-le}
-use Rattle.lists.proofs.Bools.{never, apart}
+use Rattle.lists.proofs.Bools.{apart}
 use Rattle.der.specs.declared.Head.{Head}
 use Rattle.der.specs.declared.Header.{Header}
 use Rattle.der.specs.declared.Walk.{Walk}
@@ -21,7 +21,6 @@ use Rattle.x509.specs.declared.Note.{Note}
 use Rattle.x509.specs.declared.Inside.{Inside}
 use Rattle.x509.specs.declared.Expected.{Expected}
 use Rattle.x509.specs.declared.Noted.{Noted}
-use Rattle.x509.specs.declared.Met.{Met}
 use Rattle.x509.specs.declared.ElementWalk.{ElementWalk}
 use Rattle.x509.specs.declared.RunWalk.{RunWalk}
 use Rattle.usual.specs.declared.Seen.{Seen}

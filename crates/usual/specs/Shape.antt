@@ -1,7 +1,6 @@
 -- A step of the code, not of the rules: a certificate of the usual shape is read at sight, field by field, and any other one by the walk. Here stands what the walk comes to
 -- where a function of src/lib.rt has seen its part of that shape; where it has not, it says nothing. The levels are those that are left at each place.
-use Rattle.std.specs.Prelude.{ℕ, zero, suc, ◌<◌, ◌≡◌, Bool, true, cond, List, eqb, length, drop}
-use Rattle.der.specs.declared.Head.{Head}
+use Rattle.std.specs.Prelude.{ℕ, zero, suc, ◌<◌, ◌≡◌, cond, List, eqb, drop}
 use Rattle.der.specs.declared.Header.{Header}
 use Rattle.der.specs.declared.Header.TheVariants.{Opens, NoHeader}
 use Rattle.der.specs.Header.{header}
@@ -9,9 +8,7 @@ use Rattle.x509.specs.declared.Place.{Place}
 use Rattle.x509.specs.declared.Place.TheVariants.{Certificate, TbsCertificate, Version, SerialNumber, Signature, Subject, RelativeDistinguishedName, AttributeTypeAndValue, AttributeType, CommonNameType, IssuerUniqueId, ExtensionList, Extension, OtherExtension, ExtnId, AltNameId, AltNames, GeneralName}
 use Rattle.x509.specs.declared.Note.{Note}
 use Rattle.x509.specs.declared.Note.TheVariants.{NameValue, Alternatives}
-use Rattle.x509.specs.declared.Inside.{Inside}
 use Rattle.x509.specs.declared.Inside.TheVariants.{Free}
-use Rattle.x509.specs.declared.Expected.{Expected}
 use Rattle.x509.specs.declared.Expected.TheVariants.{Fits}
 use Rattle.x509.specs.declared.Noted.{Noted}
 use Rattle.x509.specs.declared.RunWalk.{RunWalk}

@@ -1,7 +1,6 @@
 -- The ways out of the functions that make parts of what was noted. Assumes nothing.
 use Prim.Native.Nat.{ℕ}
-use mathlib.Core.Path.{◌≡◌, refl, sym, ◌∙◌}
-use mathlib.Core.Bool.{true, false, cond}
+use mathlib.Core.Path.{◌≡◌}
 use mathlib.Core.List.{List}
 use borrow.Author.Rules.{rules}
 use borrow.Author.Tests.{eq-eqb, ne_eqb}
@@ -17,7 +16,7 @@ use Rattle.x509.specs.declared.Place.{Place}
 use Rattle.x509.specs.declared.RunWalk.{RunWalk}
 use Rattle.x509.specs.declared.Fields.{Fields}
 use Rattle.x509.specs.Walk.{walk_run, walk_element, none_noted, walk_certificate}
-use Rattle.x509.specs.Found.{nothing, whole_of, contents_of, whole_at, contents_at, name_at, alternatives_at, found_at, fields_by, fields_of}
+use Rattle.x509.specs.Found.{whole_of, contents_of, whole_at, contents_at, name_at, alternatives_at, found_at, fields_by, fields_of}
 
 module _ (s : List ℕ) (at : ℕ) (d : Header) (is_d : d ≡ header at (drop at s)) where
   pub whole_opens : (h : Head) → d ≡ Header.Opens h → record { start = at; end = h.end } ≡ whole_at s at

@@ -6,9 +6,7 @@ use Rattle.x509.specs.declared.Place.{Place}
 use Rattle.x509.specs.declared.Place.TheVariants.{Certificate, TbsCertificate, SignatureAlgorithm, SignatureValue, Version, VersionNumber, SerialNumber, Signature, Issuer, Validity, Subject, RelativeDistinguishedName, AttributeTypeAndValue, AttributeType, AttributeValue, CommonNameType, CommonName, SubjectPublicKeyInfo, IssuerUniqueId, SubjectUniqueId, Extensions, ExtensionList, Extension, OtherExtension, ExtnId, Critical, ExtnValue, AltNameId, AltNameCritical, AltNameValue, AltNames, GeneralName, DirectoryName, End}
 use Rattle.x509.specs.declared.Note.{Note}
 use Rattle.x509.specs.declared.Note.TheVariants.{Nothing, KeyInfo, NameValue, Alternatives}
-use Rattle.x509.specs.declared.Inside.{Inside}
 use Rattle.x509.specs.declared.Inside.TheVariants.{Free, Holds}
-use Rattle.x509.specs.declared.Field.{Field}
 use Rattle.x509.specs.declared.Expected.{Expected}
 use Rattle.x509.specs.declared.Expected.TheVariants.{Fits, Misplaced}
 

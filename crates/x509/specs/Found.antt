@@ -1,6 +1,5 @@
 -- What is found in a certificate, as parts of it: the public key info with its header, the value of the last common name or none, and what stands in GeneralNames.
 use Rattle.std.specs.Prelude.{ℕ, cond, List, eqb, drop}
-use Rattle.der.specs.declared.Head.{Head}
 use Rattle.der.specs.declared.Header.{Header}
 use Rattle.der.specs.declared.Header.TheVariants.{Opens, NoHeader}
 use Rattle.der.specs.Header.{header}

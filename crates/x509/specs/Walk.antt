@@ -1,7 +1,7 @@
 -- Document 02, No. 7: the walk over RFC 5280's fields. "Walking one element and walking a run of elements are each other's subject": an element of the table's fields is walked with
 -- the run of the fields in it, and what stands in any other field by X.690 alone (der/specs/Walk.antt). A walk is given the place where it stands in the table, a list that
 -- ends where what holds its subject ends, and the offset at which its subject begins.
-use Rattle.std.specs.Prelude.{ℕ, zero, suc, ◌+◌, ◌-◌, cond, List, eqb, length, take, drop}
+use Rattle.std.specs.Prelude.{ℕ, zero, suc, ◌+◌, ◌-◌, cond, List, length, take, drop}
 use Rattle.der.specs.declared.Head.{Head}
 use Rattle.der.specs.declared.Header.{Header}
 use Rattle.der.specs.declared.Header.TheVariants.{Opens, NoHeader}
@@ -14,7 +14,6 @@ use Rattle.x509.specs.declared.Note.{Note}
 use Rattle.x509.specs.declared.Note.TheVariants.{Nothing, KeyInfo, NameValue, Alternatives}
 use Rattle.x509.specs.declared.Inside.{Inside}
 use Rattle.x509.specs.declared.Inside.TheVariants.{Free, Holds}
-use Rattle.x509.specs.declared.Field.{Field}
 use Rattle.x509.specs.declared.Expected.{Expected}
 use Rattle.x509.specs.declared.Expected.TheVariants.{Fits, Misplaced}
 use Rattle.x509.specs.declared.Noted.{Noted}

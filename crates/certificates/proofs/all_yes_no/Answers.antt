@@ -1,5 +1,4 @@
 -- `certificates::all_yes_no` meets its contract. Assumes nothing.
-use Prim.Native.Nat.{◌-◌}
 use Rattle.numbers.proofs.Numbers.{each_laws}
 use Rattle.certificates.proofs.all_yes_no.Goals as goal
 

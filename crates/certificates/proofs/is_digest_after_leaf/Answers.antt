@@ -1,5 +1,4 @@
 -- `certificates::is_digest_after_leaf` meets its contract. Assumes nothing.
-use Prim.Native.Nat.{◌-◌}
 use Rattle.certificates.proofs.FactsReturns.{place_test_laws}
 use Rattle.certificates.proofs.is_digest_after_leaf.Goals as goal
 

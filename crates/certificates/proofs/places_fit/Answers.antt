@@ -1,5 +1,4 @@
 -- `certificates::places_fit` meets its contract. Assumes nothing.
-use Prim.Native.Nat.{◌-◌}
 use Rattle.certificates.proofs.Limits.{places_laws}
 use Rattle.certificates.proofs.places_fit.Goals as goal
 

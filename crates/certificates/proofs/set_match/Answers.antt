@@ -1,5 +1,4 @@
 -- `certificates::set_match` meets its contract. Assumes nothing.
-use Prim.Native.Nat.{◌-◌}
 use Rattle.certificates.proofs.Checks.{set_laws}
 use Rattle.certificates.proofs.set_match.Goals as goal
 

@@ -1,6 +1,5 @@
 -- `certificates::sha512_of` meets its contract. Assumes nothing.
 use Rattle.certificates.proofs.Strongest.{sha512_laws}
-use Prim.Native.Nat.{◌-◌}
 use Rattle.certificates.proofs.sha512_of.Goals as goal
 
 pub count-n-requires : goal.count-n-requires

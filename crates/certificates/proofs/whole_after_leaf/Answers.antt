@@ -1,5 +1,4 @@
 -- `certificates::whole_after_leaf` meets its contract. Assumes nothing.
-use Prim.Native.Nat.{◌-◌}
 use Rattle.certificates.proofs.Passing.{whole_laws}
 use Rattle.certificates.proofs.whole_after_leaf.Goals as goal
 

@@ -1,5 +1,4 @@
 -- `der::long_size` meets its contract. Assumes nothing.
-use Prim.Native.Nat.{◌-◌}
 use Rattle.der.proofs.Sizes.{long_laws, long_begins}
 use Rattle.der.proofs.long_size.Goals as goal
 

@@ -1,5 +1,4 @@
 -- `fields::letters_end` meets its contract. Assumes nothing.
-use Prim.Native.Nat.{◌-◌}
 use Rattle.lists.proofs.Marks.{marks_laws}
 use Rattle.fields.proofs.letters_end.Goals as goal
 

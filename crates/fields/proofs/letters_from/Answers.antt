@@ -1,5 +1,4 @@
 -- `fields::letters_from` meets its contract. Assumes nothing.
-use Prim.Native.Nat.{◌-◌}
 use Rattle.lists.proofs.Span.{past_laws}
 use Rattle.fields.proofs.letters_from.Goals as goal
 

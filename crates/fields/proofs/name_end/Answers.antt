@@ -1,5 +1,4 @@
 -- `fields::name_end` meets its contract. Assumes nothing.
-use Prim.Native.Nat.{◌-◌}
 use borrow.Author.Rules.{rules}
 use borrow.Author.Tests.{not-false}
 use Rattle.lists.proofs.Split.{find_next}

@@ -1,5 +1,4 @@
 -- `fields::past_blanks` meets its contract. Assumes nothing.
-use Prim.Native.Nat.{◌-◌}
 use Rattle.lists.proofs.Span.{past_laws}
 use Rattle.fields.proofs.past_blanks.Goals as goal
 

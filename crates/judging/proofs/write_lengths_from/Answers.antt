@@ -1,6 +1,5 @@
 -- `judging::write_lengths_from` meets its contract. Assumes nothing.
 use Rattle.judging.proofs.Texts.{lengths_laws, lengths_within, lengths_left, lengths_put, lengths_same}
-use Prim.Native.Nat.{◌-◌}
 use Rattle.judging.proofs.write_lengths_from.Goals as goal
 
 pub loop-p-init : goal.loop-p-init

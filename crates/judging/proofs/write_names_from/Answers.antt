@@ -1,6 +1,5 @@
 -- `judging::write_names_from` meets its contract. Assumes nothing.
 use Rattle.judging.proofs.Texts.{names_laws, names_within, names_left, names_put, names_same}
-use Prim.Native.Nat.{◌-◌}
 use Rattle.judging.proofs.write_names_from.Goals as goal
 
 pub loop-p-init : goal.loop-p-init

@@ -1,5 +1,4 @@
 -- `leaf::accepted` meets its contract. Assumes nothing.
-use Prim.Native.Nat.{◌-◌}
 use Rattle.leaf.proofs.Answers.{accepted-laws}
 use Rattle.leaf.proofs.accepted.Goals as goal
 

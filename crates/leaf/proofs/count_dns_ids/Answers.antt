@@ -1,6 +1,5 @@
 -- `leaf::count_dns_ids` meets its contract. Assumes nothing.
 use Rattle.leaf.proofs.Names.{count_laws}
-use Prim.Native.Nat.{◌-◌}
 use Rattle.leaf.proofs.count_dns_ids.Goals as goal
 
 pub loop-p-init : goal.loop-p-init

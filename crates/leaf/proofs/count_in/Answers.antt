@@ -1,5 +1,4 @@
 -- `leaf::count_in` meets its contract. Assumes nothing.
-use Prim.Native.Nat.{◌-◌}
 use Rattle.leaf.proofs.Answers.{read_laws}
 use Rattle.leaf.proofs.count_in.Goals as goal
 

@@ -1,6 +1,5 @@
 -- `leaf::next_dns_id` meets its contract. Assumes nothing.
 use Rattle.leaf.proofs.Names.{next_laws}
-use Prim.Native.Nat.{◌-◌}
 use Rattle.leaf.proofs.next_dns_id.Goals as goal
 
 pub returns-then-s-lt2 : goal.returns-then-s-lt2

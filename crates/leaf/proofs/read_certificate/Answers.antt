@@ -1,5 +1,4 @@
 -- `leaf::read_certificate` meets its contract. Assumes nothing.
-use Prim.Native.Nat.{◌-◌}
 use Rattle.leaf.proofs.Answers.{answer_laws}
 use Rattle.leaf.proofs.read_certificate.Goals as goal
 

@@ -1,5 +1,4 @@
 -- `leaf::read_leaf` meets its contract. Assumes nothing.
-use Prim.Native.Nat.{◌-◌}
 use Rattle.leaf.proofs.Answers.{read_laws}
 use Rattle.leaf.proofs.read_leaf.Goals as goal
 

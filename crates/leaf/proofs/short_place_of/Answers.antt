@@ -1,5 +1,4 @@
 -- `leaf::short_place_of` meets its contract. Assumes nothing.
-use Prim.Native.Nat.{◌-◌}
 use Rattle.leaf.proofs.Writing.{place_laws}
 use Rattle.leaf.proofs.short_place_of.Goals as goal
 

@@ -1,5 +1,4 @@
 -- `leaf::write_found` meets its contract. Assumes nothing.
-use Prim.Native.Nat.{◌-◌}
 use Rattle.leaf.proofs.Answers.{found_laws}
 use Rattle.leaf.proofs.write_found.Goals as goal
 

@@ -1,5 +1,4 @@
 -- `leaf::write_places` meets its contract. Assumes nothing.
-use Prim.Native.Nat.{◌-◌}
 use Rattle.leaf.proofs.Writing.{writing_laws, within_laws, left_laws, put_laws, same_laws}
 use Rattle.leaf.proofs.write_places.Goals as goal
 

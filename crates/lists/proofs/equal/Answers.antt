@@ -1,5 +1,4 @@
 -- `lists::equal` meets its contract. Assumes nothing.
-use Prim.Native.Nat.{◌-◌}
 use Rattle.lists.proofs.Words.{eight_laws}
 use Rattle.lists.proofs.equal.Goals as goal
 

@@ -1,5 +1,4 @@
 -- `lists::equal_from` meets its contract. Assumes nothing.
-use Prim.Native.Nat.{◌-◌}
 use Rattle.lists.proofs.Agree.{agree_laws}
 use Rattle.lists.proofs.equal_from.Goals as goal
 

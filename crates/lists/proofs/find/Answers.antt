@@ -1,5 +1,4 @@
 -- `lists::find` meets its contract. Assumes nothing.
-use Prim.Native.Nat.{◌-◌}
 use Rattle.lists.proofs.Split.{find_laws}
 use Rattle.lists.proofs.find.Goals as goal
 

@@ -1,5 +1,4 @@
 -- `lists::write_front` meets its contract. Assumes nothing.
-use Prim.Native.Nat.{◌-◌}
 use Rattle.lists.proofs.Write.{front_laws}
 use Rattle.lists.proofs.write_front.Goals as goal
 

@@ -1,5 +1,4 @@
 -- `messages::read_hosts` meets its contract. Assumes nothing.
-use Prim.Native.Nat.{◌-◌}
 use Rattle.messages.proofs.Arrays.{read_laws}
 use Rattle.messages.proofs.read_hosts.Goals as goal
 

@@ -1,5 +1,4 @@
 -- `names::label_from` meets its contract. Assumes nothing.
-use Prim.Native.Nat.{◌-◌}
 use Rattle.lists.proofs.Span.{past_laws}
 use Rattle.names.proofs.label_from.Goals as goal
 

@@ -1,5 +1,4 @@
 -- `names::some_cover` meets its contract. Assumes nothing.
-use Prim.Native.Nat.{◌-◌}
 use Rattle.numbers.proofs.Loop.{any_laws}
 use Rattle.names.proofs.some_cover.Goals as goal
 

@@ -1,5 +1,4 @@
 -- `numbers::fits` meets its contract. Assumes nothing.
-use Prim.Native.Nat.{◌-◌}
 use Rattle.numbers.proofs.Numbers.{fits_laws}
 use Rattle.numbers.proofs.fits.Goals as goal
 

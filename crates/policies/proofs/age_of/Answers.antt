@@ -1,5 +1,4 @@
 -- `policies::age_of` meets its contract. Assumes nothing.
-use Prim.Native.Nat.{◌-◌}
 use Rattle.policies.proofs.Values.{age_laws}
 use Rattle.policies.proofs.age_of.Goals as goal
 

@@ -1,5 +1,4 @@
 -- `policies::check` meets its contract. Assumes nothing.
-use Prim.Native.Nat.{◌-◌}
 use Rattle.policies.proofs.Same.{check_pattern, check_next, check_laws}
 use Rattle.policies.proofs.check.Goals as goal
 

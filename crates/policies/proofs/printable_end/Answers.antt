@@ -1,5 +1,4 @@
 -- `policies::printable_end` meets its contract. Assumes nothing.
-use Prim.Native.Nat.{◌-◌}
 use Rattle.lists.proofs.Marks.{marks_laws}
 use Rattle.policies.proofs.printable_end.Goals as goal
 

@@ -1,5 +1,4 @@
 -- `policies::printable_from` meets its contract. Assumes nothing.
-use Prim.Native.Nat.{◌-◌}
 use Rattle.lists.proofs.Span.{past_laws}
 use Rattle.policies.proofs.printable_from.Goals as goal
 

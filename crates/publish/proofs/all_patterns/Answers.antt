@@ -1,5 +1,4 @@
 -- `publish::all_patterns` meets its contract. Assumes nothing.
-use Prim.Native.Nat.{◌-◌}
 use Rattle.numbers.proofs.Loop.{every_laws}
 use Rattle.publish.proofs.all_patterns.Goals as goal
 

@@ -1,5 +1,4 @@
 -- `publish::lines_length` meets its contract. Assumes nothing.
-use Prim.Native.Nat.{◌-◌}
 use Rattle.publish.proofs.RewriteReturns.{lengths_laws, lengths_next}
 use borrow.Author.Rules.{rules}
 use Rattle.publish.proofs.lines_length.Goals as goal

@@ -1,5 +1,4 @@
 -- `publish::write_lines` meets its contract. Assumes nothing.
-use Prim.Native.Nat.{◌-◌}
 use Rattle.publish.proofs.RewriteReturns.{lines_laws, lines_same, lines_places, lines_turn, lines_end, lines_written}
 use borrow.Author.Rules.{rules}
 use Rattle.publish.proofs.write_lines.Goals as goal

@@ -1,5 +1,4 @@
 -- `publish::write_patterns` meets its contract. Assumes nothing.
-use Prim.Native.Nat.{◌-◌}
 use Rattle.publish.proofs.PolicyReturns.{mx_laws, mx_same, mx_places, mx_next, mx_end, mx_written}
 use Rattle.numbers.proofs.Pieces.{end_within}
 use borrow.Author.Rules.{rules}

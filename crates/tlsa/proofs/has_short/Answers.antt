@@ -1,5 +1,4 @@
 -- `tlsa::has_short` meets its contract. Assumes nothing.
-use Prim.Native.Nat.{◌-◌}
 use Rattle.tlsa.proofs.Short.{short_laws}
 use Rattle.tlsa.proofs.has_short.Goals as goal
 

@@ -1,5 +1,4 @@
 -- `tlsa::has_usable` meets its contract. Assumes nothing.
-use Prim.Native.Nat.{◌-◌}
 use Rattle.numbers.proofs.Loop.{any_laws}
 use Rattle.tlsa.proofs.has_usable.Goals as goal
 

@@ -1,5 +1,4 @@
 -- `txt::find_candidate` meets its contract. Assumes nothing.
-use Prim.Native.Nat.{◌-◌}
 use Rattle.txt.proofs.Candidates.{found_laws}
 use Rattle.txt.proofs.find_candidate.Goals as goal
 

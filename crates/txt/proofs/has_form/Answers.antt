@@ -1,5 +1,4 @@
 -- `txt::has_form` meets its contract. Assumes nothing.
-use Prim.Native.Nat.{◌-◌}
 use Rattle.txt.proofs.Answers.{form-laws}
 use Rattle.txt.proofs.has_form.Goals as goal
 

@@ -1,5 +1,4 @@
 -- `txt::is_candidate_in_parts` meets its contract. Assumes nothing.
-use Prim.Native.Nat.{◌-◌}
 use Rattle.txt.proofs.Strings.{tag_laws}
 use Rattle.txt.proofs.is_candidate_in_parts.Goals as goal
 

@@ -1,5 +1,4 @@
 -- `txt::is_rdata` meets its contract. Assumes nothing.
-use Prim.Native.Nat.{◌-◌}
 use Rattle.txt.proofs.Strings.{rdata_past, rdata_laws}
 use Rattle.txt.proofs.is_rdata.Goals as goal
 

@@ -1,5 +1,4 @@
 -- `txt::join` meets its contract. Assumes nothing.
-use Prim.Native.Nat.{◌-◌}
 use borrow.Author.Rules.{rules}
 use Rattle.txt.proofs.Writing.{join_laws, join_within, join_left, join_put, join_same}
 use Rattle.txt.proofs.join.Goals as goal

@@ -1,5 +1,4 @@
 -- `txt::joined_length` meets its contract. Assumes nothing.
-use Prim.Native.Nat.{◌-◌}
 use Rattle.txt.proofs.Strings.{length_laws}
 use Rattle.txt.proofs.joined_length.Goals as goal
 

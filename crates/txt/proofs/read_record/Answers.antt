@@ -1,5 +1,4 @@
 -- `txt::read_record` meets its contract. Assumes nothing.
-use Prim.Native.Nat.{◌-◌}
 use borrow.Author.Rules.{rules}
 use Rattle.txt.proofs.Answers.{read-record-start, read-record-end, read-record-broken, read-record-next, read-record-id, field-order, field-equals, field_value, field-inside, field-less}
 use Rattle.txt.proofs.read_record.Goals as goal

@@ -1,5 +1,4 @@
 -- `txt::value_end` meets its contract. Assumes nothing.
-use Prim.Native.Nat.{◌-◌}
 use Rattle.lists.proofs.Marks.{marks_laws}
 use Rattle.txt.proofs.value_end.Goals as goal
 

@@ -1,5 +1,4 @@
 -- `txt::value_from` meets its contract. Assumes nothing.
-use Prim.Native.Nat.{◌-◌}
 use Rattle.lists.proofs.Span.{past_laws}
 use Rattle.txt.proofs.value_from.Goals as goal
 

@@ -1,6 +1,5 @@
 -- `usual::are_dns_names` meets its contract. Assumes nothing.
 use Rattle.usual.proofs.Shape.{names_laws}
-use Prim.Native.Nat.{◌-◌}
 use Rattle.usual.proofs.are_dns_names.Goals as goal
 
 pub loop-i-init : goal.loop-i-init

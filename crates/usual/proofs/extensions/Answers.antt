@@ -1,6 +1,5 @@
 -- `usual::extensions` meets its contract. Assumes nothing.
 use Rattle.usual.proofs.Shape.{extensions_laws}
-use Prim.Native.Nat.{◌-◌}
 use Rattle.usual.proofs.extensions.Goals as goal
 
 pub loop-i-init : goal.loop-i-init

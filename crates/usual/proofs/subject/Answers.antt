@@ -1,6 +1,5 @@
 -- `usual::subject` meets its contract. Assumes nothing.
 use Rattle.usual.proofs.Shape.{subject_laws}
-use Prim.Native.Nat.{◌-◌}
 use Rattle.usual.proofs.subject.Goals as goal
 
 pub loop-i-init : goal.loop-i-init

@@ -1,5 +1,4 @@
 -- `policies::utf8::is_text` meets its contract. Assumes nothing.
-use Prim.Native.Nat.{◌-◌}
 use Rattle.policies.proofs.Texts.{text_laws}
 use Rattle.policies.proofs.utf8.is_text.Goals as goal
 
