@@ -90,7 +90,7 @@ source_functions() {
                 place(name, "parameter 1", "void")
         }
         {
-            marked = gsub(/#\[unsafe\(no_mangle\)\]/, "&")
+            marked = gsub(/no_mangle/, "&")
             while (match($0, /#\[unsafe\(no_mangle\)\] pub extern "C" fn [a-z0-9_]+(<[^>]*>)?\([^)]*\)( -> [A-Za-z0-9]+)?/)) {
                 one(substr($0, RSTART + 21, RLENGTH - 21)) # without its mark
                 $0 = substr($0, RSTART + RLENGTH)
@@ -222,6 +222,10 @@ compare() {
         }' "$files/source" "$files/header"
 }
 
+if grep -rn --include='*.rt' --exclude-dir=out no_mangle crates | grep -v "^$source/"; then
+    echo "declarations: a function is exported outside $source" >&2
+    exit 1
+fi
 source_functions >"$files/source"
 header_functions >"$files/header"
 names=$(cut -f 3 "$files/source" "$files/header" | grep -o 'struct tweedstork_[a-z0-9_]*' | sort -u | tr '\n' '|')

@@ -82,14 +82,14 @@ check_files() {
     done
 }
 
-# Every name of a definition, a law or a must-fail edit, in whatever sentence of these documents, stands somewhere in the crates: words
-# in small letters, joined by `_`.
+# Every name of a definition, a law or a must-fail edit, in whatever sentence of these documents, stands somewhere in the crates: two
+# words joined by `_` or a hyphen, or written together.
 check_words_of_crates() {
     local unknown
     unknown=$(comm -23 \
-        <(grep -oh '`[a-z][a-z0-9]*\(_[a-z0-9]\+\)\+`' docs/CLAIMS.md docs/RULES.md docs/ARCHITECTURE.md | tr -d '`' | sort -u) \
+        <(grep -oh '`[a-z][A-Za-z0-9]*\([_-][a-z0-9]\+\|[A-Z][A-Za-z0-9]*\)\+`' docs/CLAIMS.md docs/RULES.md docs/ARCHITECTURE.md | tr -d '`' | sort -u) \
         <({
-            grep -rohE --exclude-dir=out --include='*.antt' --include='*.rt' '[A-Za-z][A-Za-z0-9_]*' crates
+            grep -rohE --exclude-dir=out --include='*.antt' --include='*.rt' '[A-Za-z][A-Za-z0-9_-]*' crates
             find crates -name '*.edit' | sed -e 's/.*\///' -e 's/\.edit$//'
             ls crates
         } | sort -u))

@@ -293,12 +293,12 @@ pub(crate) fn answer_of(count: usize, a: u64, b: u64, c: u64, d: u64) -> Answer 
     }
 }
 
-// Says what of a case differs.
+// What of a case differs, in words.
 pub(crate) fn differs(what: &'static str) -> Outcome {
     Outcome::Differs(Difference::Named(what))
 }
 
-// Compares a case's answers, and says where they differ.
+// Compares a case's answers: where they differ, both.
 pub(crate) fn compared(expected: Answer, got: Answer) -> Outcome {
     let a = expected.numbers;
     let b = got.numbers;
