@@ -91,5 +91,6 @@ next_more rank i n l = rw (lt-ltb i n l, and-true (ltb 2 rank)) (go (ltb 2 rank)
     go true = omega (arith, l)
     go false = omega (arith, l)
 
+-- the same, of the place j that `next_at` gave
 pub next_later : (rank i n j : ℕ) → j ≡ next_at rank i n → i < n → n - j < n - i
 next_later rank i n j e l = rw e (next_more rank i n l)
