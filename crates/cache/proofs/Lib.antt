@@ -1,11 +1,12 @@
-pub mod Covered
 pub mod Pass
 pub mod Fill
 pub mod Stored
+pub mod Search
 pub mod Scanned
 pub mod Single
 pub mod StoredFound
 pub mod Steps
+pub mod Calls
 pub mod Independence
 pub mod Exactly
 pub mod Worked

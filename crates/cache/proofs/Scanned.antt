@@ -1,7 +1,7 @@
 -- The code's passes over a table find the place for a store, and the entry for a lookup: the answers and the lent memory are those of the paper. Assumes nothing.
 use Prim.Native.Nat.{ℕ, suc, ◌+◌, ◌<◌, ◌≤◌}
 use mathlib.Core.Path.{◌≡◌, refl, sym, ap, ◌∙◌}
-use mathlib.Core.Bool.{Bool, true, false, cond, not, ◌&&◌, ◌||◌, and-true, and-false}
+use mathlib.Core.Bool.{Bool, true, false, cond, not, ◌||◌}
 use mathlib.Core.List.{List, [], ◌∷◌, ◌++◌}
 use mathlib.Core.Option.{Option, none, some}
 use native.Mathlib.Omega.{arith}
@@ -22,14 +22,12 @@ use Rattle.writing.specs.Answer.{answer_unless, unless_refused}
 use Rattle.writing.specs.Over.{over}
 use Rattle.cache.specs.declared.CacheEntry.{CacheEntry}
 use Rattle.cache.specs.declared.State.TheVariants as S
-use Rattle.cache.specs.declared.Found.{Found}
-use Rattle.cache.specs.declared.Plan.{Plan}
 use Rattle.cache.specs.Held.{Held, text_place, unfilled, text_at, is_accepted, written, held_in, held_from, contents, no_entry}
 use Rattle.cache.specs.Store.{is_live_at, is_own, is_empty, is_stale, else_place, own_place, store_place, sizes_fit, argument_checks, store_checks, store_refusal, entry_for, store_answer, table_after, texts_after, clock_and_name}
 use Rattle.cache.specs.Lookup.{if_live, live_for, found_at, refused_or, lookup_refusal, lookup_answer}
-use Rattle.cache.specs.Scan.{state_of, rank_in, found_of, is_sought, better, step, found_from, scanned, beginning, own_scanned, both_scanned, beyond, refusal_for, refused_plan, plan_by, plan_of, answer_by, answer_from}
-use Rattle.cache.proofs.Covered.{held_yes, held_no, outside_kept}
+use Rattle.cache.specs.Scan.{Found, Plan, state_of, rank_in, found_of, is_sought, better, step, found_from, scanned, beginning, own_scanned, both_scanned, beyond, refusal_for, refused_plan, plan_by, plan_of, answer_by, answer_from}
 use Rattle.cache.proofs.Pass.{ended_stays}
+use Rattle.cache.proofs.Search.{held_yes, held_no, own_is, outside_kept}
 use Rattle.cache.proofs.Stored.{held_length, held_at_lem, sizes_are}
 
 -- what an entry that is somebody's own holds is what is written there
@@ -40,12 +38,6 @@ own_accepted d e text h = go (is_accepted e text) h
     go : (b : Bool) → is_own d (cond b (some (written e text)) none) ≡ true → cond b (some (written e text)) none ≡ some (written e text)
     go true g = refl
     go false g = apart g
-
--- an entry is the own one where its domain is the same and it is accepted
-own_is : (d : List ℕ) (e : CacheEntry) (text : List ℕ) (b : Bool) → is_accepted e text ≡ b → is_own d (held_in e text) ≡ (same_text (unfilled e.domain) d && b)
-unfolding is_own
-own_is d e text true h = rw (held_yes e text h) (sym (and-true (same_text (unfilled e.domain) d)))
-own_is d e text false h = rw (held_no e text h) (sym (and-false (same_text (unfilled e.domain) d)))
 
 -- a place beyond both
 beyond_most : (n m : ℕ) → (n ≤ beyond n m) × (m ≤ beyond n m)

@@ -1,5 +1,6 @@
--- How the code goes over a table: not the paper's words, but the same answers (proofs/Scanned.antt joins the two). A pass looks for the domain's own entry, without a
--- look at the text of any other; a store without one makes a second pass, for an empty entry or a stale one.
+-- A table that is gone over in passes, each entry with a rank: not the paper's words, but the same answers (proofs/Scanned.antt joins the two). A pass looks for the
+-- domain's own entry, without a look at the text of any other; a store without one makes a second pass, for an empty entry or a stale one. Of these definitions the code's
+-- own contracts cite `state_of` alone: what its functions find is said in `Search`.
 use Rattle.std.specs.Prelude.{ℕ, ◌+◌, Bool, true, false, cond, not, ◌&&◌, ◌||◌, List, [], ◌∷◌, ◌++◌, eqb, ltb, length, take, drop}
 use Rattle.std.proofs.Math.Option.{Option, none, some}
 use Rattle.lists.specs.Equal.{same_text}
@@ -7,12 +8,24 @@ use Rattle.lists.specs.Check.{refusal_of}
 use Rattle.cache.specs.declared.CacheEntry.{CacheEntry}
 use Rattle.cache.specs.declared.State.{State}
 use Rattle.cache.specs.declared.State.TheVariants as S
-use Rattle.cache.specs.declared.Found.{Found}
-use Rattle.cache.specs.declared.Plan.{Plan}
 use Rattle.cache.specs.declared.CacheAnswer.{CacheAnswer}
 use Rattle.cache.specs.Held.{Held, entries, text_place, unfilled, filled, text_at, held_in, no_entry}
 use Rattle.cache.specs.Store.{is_live_at, sizes_fit, sizes_check, argument_checks, entry_for}
 use Rattle.cache.specs.Lookup.{only_number, refused_or, lookup_refusal}
+
+-- what is found so far in a table: the rank of an entry, its position, and what a lookup answers of it
+pub record Found : Type 0 where
+  pub rank : ℕ
+  pub place : ℕ
+  pub fetched : ℕ
+  pub length : ℕ
+  pub id : List ℕ
+
+-- what a store is to do: the answer's number, and which entry goes where; outside the table where nothing is stored
+pub record Plan : Type 0 where
+  pub number : ℕ
+  pub place : ℕ
+  pub entry : CacheEntry
 
 -- the state at a clock of what an entry holds
 unfoldable pub state_of : ℕ → Option Held → State
@@ -55,14 +68,6 @@ found_from own clock d x i s (e ∷ t) = found_from own clock d x (i + 1) (step 
 -- what a pass finds, beginning with what is found already
 unfoldable pub scanned : Bool → ℕ → List ℕ → Found → List CacheEntry → List ℕ → Found
 scanned own clock d s t x = found_from own clock d x 0 s t
-
--- the position at which a pass begins among n entries: the end, where the search is over
-unfoldable pub start_at : ℕ → ℕ → ℕ
-start_at rank n = cond (ltb 2 rank) 0 n
-
--- the position after i at which a pass goes on among n entries: the end, where the search is over
-unfoldable pub next_at : ℕ → ℕ → ℕ → ℕ
-next_at rank i n = cond (ltb 2 rank && ltb i n) (i + 1) n
 
 -- what is found before the first pass over a table of n entries with a buffer of m bytes: nothing; where these are not their sizes, a rank that ends the search
 unfoldable pub beginning : ℕ → ℕ → Found

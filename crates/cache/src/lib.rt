@@ -1,20 +1,17 @@
-// The policy cache: a table of entries and a buffer of policy texts, both lent by the relay. The work is done by functions on one entry by value; of the functions here
-// only `scan` and `put` touch the lent table. The two calls stand in `tweedstork`.
+// The policy cache: a table of entries and a buffer of policy texts, both lent by the relay. Only `store` writes to them.
 #![tactic(auto)]
 
-ghost use Rattle.std.specs.Prelude.{◌≡◌, true, false, ◌≤◌, length, set, take, drop};
+ghost use Rattle.std.specs.Prelude.{◌≡◌, ◌≢◌, ◌<◌, ◌≤◌, List, ℕ, ◌++◌, length};
 ghost use Rattle.lists.specs.Equal.{same_text};
-ghost use Rattle.lists.specs.Span.{trimmed_length};
-ghost use Rattle.lists.specs.Write.{wrote_front};
-ghost use Rattle.names.specs.Name.{is_name};
-ghost use Rattle.txt.specs.Paper.{is_id};
-ghost use Rattle.writing.specs.Over.{over};
-ghost use Rattle.cache.specs.Held.{text_place, is_zero, unfilled, filled, fields_fit, held_in, no_entry};
-ghost use Rattle.cache.specs.Store.{entry_for};
-ghost use Rattle.cache.specs.Lookup.{only_number};
-ghost use Rattle.cache.specs.Scan.{state_of, rank_in, found_of, beginning, is_sought, better, scanned, start_at, next_at, beyond, refused_plan, plan_of, answer_by, answer_from};
+ghost use Rattle.lists.specs.Check.{refusal_of};
+ghost use Rattle.cache.specs.Held.{unfilled, filled, zeros, fields_fit, held_in, text_at, contents, no_entry};
+ghost use Rattle.cache.specs.Store.{own_place, store_place, store_refusal, entry_for, store_answer, table_after, texts_after};
+ghost use Rattle.cache.specs.Lookup.{only_number, lookup_refusal, lookup_answer};
+ghost use Rattle.cache.specs.Scan.{state_of};
+ghost use Rattle.cache.specs.Search.{liveness, own_entry, other_place, number_of, agrees, policy_checks, found_refusal, answer_at};
 
 use clock::{Lifetime, Reading};
+use writing::WriteAnswer;
 
 // How many entries a table has, how many bytes of text each of them, and how many bytes the buffer.
 pub const ENTRIES: usize = 64;
@@ -25,7 +22,7 @@ pub const BUFFER: usize = 65536;
 
 // An entry: domain and id filled up with zeros, the clock of the fetch, and the length of the policy's text.
 #[repr(C)]
-#[derive(Clone, Copy)]
+#[derive(Clone, Copy, PartialEq, Eq)]
 pub struct CacheEntry {
     pub domain: [u8; 253],
     pub id: [u8; 32],
@@ -36,7 +33,7 @@ pub struct CacheEntry {
 // The answer to a lookup: on 15 the place of the policy's text in the buffer, the clock of its fetch, and its id, filled up with zeros; else zeros. The length is
 // that of an output, which the call has not.
 #[repr(C)]
-#[derive(Clone, Copy)]
+#[derive(Clone, Copy, PartialEq, Eq)]
 pub struct CacheAnswer {
     pub number: u64,
     pub length: u64,
@@ -55,26 +52,60 @@ pub enum State {
     Live,
 }
 
-// What is found so far in a table: the rank of an entry (0 the domain's own and live, 1 its own and stale, 2 empty, 3 another's and stale, 4 none), its position, and
-// what a lookup answers of it. Ranks 0, 1 and 2 end the search: the first own entry counts, live or stale, and so does the first empty one.
-#[derive(Clone, Copy)]
-pub struct Found {
-    pub rank: u64,
-    pub place: usize,
-    pub fetched: u64,
-    pub length: u64,
-    pub id: [u8; 32],
+impl State {
+    // Whether it is live, of an entry that is not empty.
+    #[tactic(auto, unfolding(crate::specs::Search::liveness))]
+    fn live(self) -> Option<bool>
+        ensures { result ≡ liveness self }
+    {
+        match self {
+            State::Empty => None,
+            State::Stale => Some(false),
+            State::Live => Some(true),
+        }
+    }
 }
 
-// What a store is to do: the answer's number, and which entry goes where; outside the table where nothing is stored.
+// The domain's own entry: its position, and whether it is live.
 #[derive(Clone, Copy)]
-pub struct Plan {
-    pub number: u64,
+pub struct Own {
     pub place: usize,
-    pub entry: CacheEntry,
+    pub live: bool,
+}
+
+// Why a call is refused. The policy's number is that of its reader.
+#[derive(Clone, Copy)]
+pub enum Refusal {
+    BadDomain,
+    BadClock,
+    TableFull,
+    TextLong,
+    NotFound,
+    WrongSize,
+    BadId,
+    BadPolicy(u64),
+}
+
+impl From<Refusal> for u64 {
+    ghost from_gives = { λ r n. n ≡ number_of r };
+
+    #[tactic(auto, unfolding(crate::specs::Search::number_of))]
+    fn from(r: Refusal) -> u64 {
+        match r {
+            Refusal::BadDomain => 60,
+            Refusal::BadClock => 62,
+            Refusal::TableFull => 70,
+            Refusal::TextLong => 71,
+            Refusal::NotFound => 72,
+            Refusal::WrongSize => 74,
+            Refusal::BadId => 80,
+            Refusal::BadPolicy(number) => number,
+        }
+    }
 }
 
 // An entry of zeros.
+#[tactic(auto, unfolding(crate::specs::Held::no_entry))]
 pub fn no_entry() -> CacheEntry
     ensures { result ≡ no_entry }
 {
@@ -86,416 +117,254 @@ pub fn no_entry() -> CacheEntry
     }
 }
 
-// Whether b is a zero.
-fn is_zero(b: u8) -> bool
-    ensures { result ≡ is_zero b }
+// A text less its final zeros, as far as they fill N bytes at a time.
+fn without_zeros<const N: usize>(s: &[u8]) -> &[u8]
+    requires { (0 < N) × (N ≤ 8) }
+    ensures same { unfilled result.now ≡ unfilled s.now }
+    ensures none_left { (front : List ℕ) → result.now ≢ front ++ zeros N }
 {
-    b == 0
+    let mut rest = s;
+    while let Some(front) = rest.strip_suffix(&[0; N]) {
+        rest = front;
+    }
+    rest
 }
 
-// Where the final zeros of s begin, as far as they fill eight bytes at a time: each eight are compared with the eight after them.
-fn zeros_by_eight(s: &[u8]) -> usize
-    ensures { (result ≤ length s.now) × (trimmed_length is_zero s.now ≡ trimmed_length is_zero (take result s.now)) }
-{
-    if s.len() < 8 {
-        return s.len();
-    }
-    let mut e = s.len() - 8;
-    let last = lists::first_eight(&s[e..e + 8]);
-    if last != 0 {
-        return s.len();
-    }
-    while 8 <= e {
-        let i = e - 8;
-        let same = lists::equal(&s[i..i + 8], &s[e..e + 8]);
-        if !same {
-            return e;
-        }
-        e = i;
-    }
-    e
-}
-
-// How many bytes s has less its final zeros.
-fn unfilled_length(s: &[u8]) -> usize
-    ensures { result ≡ trimmed_length is_zero s.now }
-{
-    let mut e = zeros_by_eight(s);
-    while 0 < e {
-        let last = e - 1;
-        let zero = is_zero(s[last]);
-        if !zero {
-            return e;
-        }
-        e = last;
-    }
-    0
-}
-
-// A field less its final zeros.
+// A field less its final zeros. Most of them go eight at a time.
+#[tactic(auto, using(crate::proofs::Fill::ends_bare))]
 fn unfilled_part(field: &[u8]) -> &[u8]
     ensures { result.now ≡ unfilled field.now }
 {
-    let n = unfilled_length(field);
-    numbers::part(field, 0, n as u64)
-}
-
-// Whether a field holds a name.
-fn is_domain_field(field: &[u8]) -> bool
-    ensures { result ≡ is_name (unfilled field.now) }
-{
-    names::is_name(unfilled_part(field))
-}
-
-// Whether a field holds an id.
-fn is_id_field(field: &[u8]) -> bool
-    ensures { result ≡ is_id (unfilled field.now) }
-{
-    txt::is_id(unfilled_part(field))
+    without_zeros::<1>(without_zeros::<8>(field))
 }
 
 // Whether a field holds this domain, ignoring ASCII case. Another length is told first, by the byte where the domain's last one would stand and by the one behind it
 // (but for a domain that fills the field); the final zeros are looked for only where the bytes before them are the same.
+#[tactic(auto, using(crate::proofs::Fill::holds_laws))]
 fn holds_domain(field: &[u8], domain: &[u8]) -> bool
     ensures { result ≡ same_text (unfilled field.now) domain.now }
 {
     let n = domain.len();
-    if n < field.len() {
-        if field[n] != 0 {
-            return false;
-        }
-        if 0 < n {
-            if field[n - 1] == 0 {
-                return false;
-            }
-        }
-    }
-    let compared = names::compare(numbers::part(field, 0, n as u64), domain);
-    if !compared.equal {
+    if n < field.len() && field[n] != 0 {
         return false;
     }
-    let size = unfilled_length(field);
-    size == n
+    if 0 < n && n <= field.len() && field[n - 1] == 0 {
+        return false;
+    }
+    let compared = names::compare(numbers::part(field, 0, n as u64), domain);
+    compared.equal && unfilled_part(field).len() == n
 }
 
 // Whether the fields of an entry are accepted.
-fn fields_fit(e: CacheEntry) -> bool
-    ensures { result ≡ fields_fit e }
+#[tactic(auto, unfolding(crate::specs::Held::fields_fit))]
+fn fields_fit(e: &CacheEntry) -> bool
+    ensures { result ≡ fields_fit e.now }
 {
-    if (ROOM as u64) < e.length {
-        return false;
-    }
-    let domain = e.domain;
-    let named = is_domain_field(&domain);
-    if !named {
-        return false;
-    }
-    let id = e.id;
-    let id_fits = is_id_field(&id);
-    if !id_fits {
-        return false;
-    }
-    clock::is_reading(Reading(e.fetched))
+    e.length <= ROOM as u64
+        && names::is_name(unfilled_part(&e.domain))
+        && txt::is_id(unfilled_part(&e.id))
+        && clock::is_reading(Reading(e.fetched))
 }
 
-// The length bytes of text of the entry at position i, as far as the buffer goes.
-fn text_part(texts: &[u8], i: usize, length: u64) -> &[u8]
-    ensures { result.now ≡ take length (drop (text_place i) texts.now) }
-{
-    if texts.len() / ROOM < i {
-        return &texts[0..0];
-    }
-    numbers::part(texts, ROOM * i, length)
+// The cache as a call finds it: the call's clock, and the table and the buffer that are lent.
+#[derive(Clone, Copy)]
+pub struct Cache<'a> {
+    pub clock: u64,
+    pub table: &'a [CacheEntry],
+    pub texts: &'a [u8],
 }
 
-// What an entry with this text is at a clock. The text is read once.
-fn state_at(clock: u64, e: CacheEntry, text: &[u8]) -> State
-    ensures { result ≡ state_of clock (held_in e text.now) }
-{
-    let fit = fields_fit(e);
-    if !fit {
-        return State::Empty;
+impl<'a> Cache<'a> {
+    // The text of the entry e at position i, as far as the buffer goes.
+    #[tactic(auto, using(crate::proofs::Search::text_is))]
+    fn text_of(self, i: usize, e: &CacheEntry) -> &'a [u8]
+        ensures { result.now ≡ text_at self.entry.texts.now i e.now }
+    {
+        numbers::part(self.texts, ROOM.saturating_mul(i), e.length)
     }
-    let answer = policies::read_policy(text);
-    if answer.number != policies::ACCEPTED {
-        return State::Empty;
-    }
-    let live = clock::is_live(
-        Reading(e.fetched),
-        Lifetime(answer.lifetime),
-        Reading(clock),
-    );
-    if live {
-        return State::Live;
-    }
-    State::Stale
-}
 
-// The rank of an entry in the pass for the own entry, by its state.
-fn own_rank(state: State) -> u64
-    ensures { result ≡ rank_in true state }
-{
-    match state {
-        State::Live => 0,
-        State::Stale => 1,
-        State::Empty => 4,
+    // What the entry e at position i is. Its text is read once.
+    #[tactic(auto, unfolding(crate::specs::Scan::state_of, crate::specs::Held::held_in, crate::specs::Held::is_accepted, crate::specs::Held::is_policy, crate::specs::Store::is_live_at))]
+    fn state_of(self, i: usize, e: &CacheEntry) -> State
+        ensures { result ≡ state_of self.entry.clock (held_in e.now (text_at self.entry.texts.now i e.now)) }
+    {
+        if !fields_fit(e) {
+            return State::Empty;
+        }
+        let answer = policies::read_policy(self.text_of(i, e));
+        if answer.number != policies::ACCEPTED {
+            return State::Empty;
+        }
+        let live = clock::is_live(
+            Reading(e.fetched),
+            Lifetime(answer.lifetime),
+            Reading(self.clock),
+        );
+        if live { State::Live } else { State::Stale }
     }
-}
 
-// The rank of an entry in the other pass.
-fn other_rank(state: State) -> u64
-    ensures { result ≡ rank_in false state }
-{
-    match state {
-        State::Empty => 2,
-        State::Stale => 3,
-        State::Live => 4,
+    // The domain's own entry, of several the lowest. The texts of other domains' entries are not read.
+    fn own_entry(self, domain: &[u8]) -> Option<Own>
+        ensures { result ≡ own_entry self.entry.clock domain.now (contents self.entry.table.now self.entry.texts.now) }
+    {
+        for (i, e) in self.table.iter().enumerate() {
+            if holds_domain(&e.domain, domain) {
+                if let Some(live) = self.state_of(i, e).live() {
+                    return Some(Own { place: i, live });
+                }
+            }
+        }
+        None
     }
-}
 
-// The rank of an entry in a pass.
-fn rank_in(own: bool, state: State) -> u64
-    ensures { result ≡ rank_in own state }
-{
-    if own {
-        return own_rank(state);
+    // The place that a domain without an entry of its own takes: an empty entry, else a stale one, of several the lowest. Each text is read until an entry is empty.
+    fn other_place(self) -> Option<usize>
+        ensures { result ≡ other_place self.entry.clock (contents self.entry.table.now self.entry.texts.now) }
+    {
+        let mut stale = None;
+        for (i, e) in self.table.iter().enumerate() {
+            match self.state_of(i, e) {
+                State::Empty => return Some(i),
+                State::Stale => stale = stale.or(Some(i)),
+                State::Live => {}
+            }
+        }
+        stale
     }
-    other_rank(state)
-}
 
-// Nothing is found in a table of n entries: rank 4, or 2 as a mark that ends the search before it begins.
-fn nothing_found(rank: u64, n: usize) -> Found
-    ensures { result ≡ found_of rank n no_entry }
-{
-    Found {
-        rank,
-        place: n,
-        fetched: 0,
-        length: 0,
-        id: [0; 32],
+    // What both calls are refused for.
+    #[tactic(auto, unfolding(crate::specs::Search::agrees, crate::specs::Search::number_of, crate::specs::Lookup::lookup_refusal, crate::specs::Store::sizes_fit, lists::specs::Check::refusal_of))]
+    fn check(self, domain: &[u8]) -> Result<(), Refusal>
+        ensures { agrees result (lookup_refusal self.entry.clock domain.now (length self.entry.table.now) (length self.entry.texts.now)) tt }
+    {
+        if self.table.len() != ENTRIES || self.texts.len() != BUFFER {
+            return Err(Refusal::WrongSize);
+        }
+        if !clock::is_reading(Reading(self.clock)) {
+            return Err(Refusal::BadClock);
+        }
+        if !names::is_name(domain) {
+            return Err(Refusal::BadDomain);
+        }
+        Ok(())
     }
-}
 
-// What is found before the first pass over a table of n entries with a buffer of m bytes: nothing; where these are not their sizes, the mark that ends the search, so
-// that no entry is read.
-pub fn begin(n: usize, m: usize) -> Found
-    ensures { result ≡ beginning n m }
-{
-    if n != ENTRIES {
-        return nothing_found(2, n);
-    }
-    if m != BUFFER {
-        return nothing_found(2, n);
-    }
-    nothing_found(4, n)
-}
-
-// Whether an entry with this domain field has to be looked at.
-fn is_sought(own: bool, rank: u64, field: &[u8], domain: &[u8]) -> bool
-    ensures { result ≡ is_sought own rank field.now domain.now }
-{
-    if rank <= 2 {
-        return false;
-    }
-    if !own {
-        return true;
-    }
-    holds_domain(field, domain)
-}
-
-// What is found, or the entry at position i where its rank is lower.
-fn better_at(own: bool, clock: u64, texts: &[u8], s: Found, e: CacheEntry, i: usize) -> Found
-    ensures { result ≡ better own clock texts.now s e i }
-{
-    let text = text_part(texts, i, e.length);
-    let state = state_at(clock, e, text);
-    let rank = rank_in(own, state);
-    if rank < s.rank {
-        let id = e.id;
-        return Found {
-            rank,
-            place: i,
-            fetched: e.fetched,
-            length: e.length,
-            id,
+    // The place that a store takes: the domain's own entry, else another.
+    fn place_for(self, domain: &[u8], id: &[u8], policy: &[u8]) -> Result<usize, Refusal>
+        ensures { agrees result (store_refusal self.entry.clock domain.now id.now policy.now self.entry.table.now self.entry.texts.now) (store_place self.entry.clock domain.now (contents self.entry.table.now self.entry.texts.now)) }
+    {
+        self.check(domain)?;
+        check_policy(id, policy)?;
+        let place = match self.own_entry(domain) {
+            Some(own) => Some(own.place),
+            None => self.other_place(),
         };
+        place.ok_or(Refusal::TableFull)
     }
-    s
-}
 
-// The position at which a pass begins among n entries: the end, where the search is over.
-fn start_at(rank: u64, n: usize) -> usize
-    ensures { result ≡ start_at rank n }
-{
-    if rank <= 2 {
-        return n;
-    }
-    0
-}
-
-// The position after i at which a pass goes on among n entries: the end, where the search is over.
-fn next_at(rank: u64, i: usize, n: usize) -> usize
-    ensures { result ≡ next_at rank i n }
-{
-    if rank <= 2 {
-        return n;
-    }
-    if i < n {
-        return i + 1;
-    }
-    n
-}
-
-// Goes over the lent table once, for the domain's own entry or for another that a store may take, beginning with what is found already. The pass for the own entry
-// reads the texts of entries with this domain alone; the other reads each text until it meets an empty entry.
-pub fn scan(
-    own: bool,
-    clock: u64,
-    domain: &[u8],
-    start: Found,
-    table: &[CacheEntry],
-    texts: &[u8],
-) -> Found
-    ensures { result ≡ scanned own clock domain.now start table.now texts.now }
-{
-    let mut found = start;
-    let mut i = start_at(start.rank, table.len());
-    while i < table.len() {
-        let sought = is_sought(own, found.rank, &table[i].domain, domain);
-        if sought {
-            found = better_at(own, clock, texts, found, table[i], i);
-            i = next_at(found.rank, i, table.len());
-        } else {
-            i += 1;
+    // The place of the domain's live policy.
+    fn live_place(self, domain: &[u8]) -> Result<usize, Refusal>
+        ensures { agrees result (found_refusal self.entry.clock domain.now self.entry.table.now self.entry.texts.now) (own_place domain.now (contents self.entry.table.now self.entry.texts.now)) }
+    {
+        self.check(domain)?;
+        match self.own_entry(domain) {
+            Some(own) if own.live => Ok(own.place),
+            _ => Err(Refusal::NotFound),
         }
     }
-    found
+
+    // The answer to a lookup that found the entry at a place.
+    fn answer_at(self, place: usize) -> CacheAnswer
+        requires { (place < length self.table.now) × (length self.table.now ≡ 64) }
+        ensures { result ≡ answer_at place self.entry.table.now self.entry.texts.now }
+    {
+        let e = &self.table[place];
+        let id = unfilled_part(&e.id);
+        CacheAnswer {
+            number: 15,
+            length: 0,
+            text_start: (ROOM * place) as u64,
+            text_length: self.text_of(place, e).len() as u64,
+            fetched: e.fetched,
+            id_length: id.len() as u64,
+            id: filled(id),
+        }
+    }
 }
 
-// A domain filled up with zeros.
-fn filled_domain(domain: &[u8]) -> [u8; 253]
-    ensures { result ≡ filled 253 domain.now }
+// What a store is refused for by its id and its policy.
+#[tactic(auto, unfolding(crate::specs::Search::agrees, crate::specs::Search::number_of, crate::specs::Held::is_policy, lists::specs::Check::refusal_of))]
+fn check_policy(id: &[u8], policy: &[u8]) -> Result<(), Refusal>
+    ensures { agrees result (refusal_of (policy_checks id.now policy.now)) tt }
 {
-    let mut field = [0; 253];
-    lists::write_front(domain, &mut field);
-    field
+    if !txt::is_id(id) {
+        return Err(Refusal::BadId);
+    }
+    let number = policies::read_policy(policy).number;
+    if number != policies::ACCEPTED {
+        return Err(Refusal::BadPolicy(number));
+    }
+    if ROOM < policy.len() {
+        return Err(Refusal::TextLong);
+    }
+    Ok(())
 }
 
-// An id filled up with zeros.
-fn filled_id(id: &[u8]) -> [u8; 32]
-    ensures { result ≡ filled 32 id.now }
+// A text filled up with zeros to N bytes; only zeros where it is longer.
+#[tactic(auto, unfolding(crate::specs::Held::filled, lists::specs::Write::wrote_front))]
+fn filled<const N: usize>(s: &[u8]) -> [u8; N]
+    ensures { result ≡ filled N s.now }
 {
-    let mut field = [0; 32];
-    lists::write_front(id, &mut field);
+    let mut field = [0; N];
+    if s.len() <= N {
+        field[..s.len()].copy_from_slice(s);
+    }
     field
 }
 
 // The entry that a store writes.
+#[tactic(auto, unfolding(crate::specs::Store::entry_for))]
 fn entry_for<'a>(clock: u64, domain: &'a [u8], id: &'a [u8], policy: &'a [u8]) -> CacheEntry
     ensures { result ≡ entry_for clock domain.now id.now policy.now }
 {
-    let d = filled_domain(domain);
-    let i = filled_id(id);
     CacheEntry {
-        domain: d,
-        id: i,
+        domain: filled(domain),
+        id: filled(id),
         fetched: clock,
         length: policy.len() as u64,
     }
 }
 
-// A place outside a table of n entries and a buffer of m bytes.
-fn beyond(n: usize, m: usize) -> usize
-    ensures { result ≡ beyond n m }
-{
-    if n < m {
-        return m;
-    }
-    n
-}
-
-// A refused store writes nothing.
-fn refused_plan(number: u64, n: usize, m: usize) -> Plan
-    ensures { result ≡ refused_plan number n m }
-{
-    let entry = no_entry();
-    let place = beyond(n, m);
-    Plan {
-        number,
-        place,
-        entry,
-    }
-}
-
-// What a store is to do: the refusals in their order, then the entry and its place.
-pub fn plan_store<'a>(
+// Keeps a domain's policy, with its id and the call's clock as that of the fetch.
+pub fn store<'a, 'b, 'c>(
     clock: u64,
     domain: &'a [u8],
     id: &'a [u8],
     policy: &'a [u8],
-    n: usize,
-    m: usize,
-    s: Found,
-) -> Plan
-    ensures { result ≡ plan_of clock domain.now id.now policy.now n m s }
+    table: &'b mut [CacheEntry],
+    texts: &'c mut [u8],
+) -> WriteAnswer
+    ensures answer { result ≡ store_answer clock domain.now id.now policy.now table.old texts.old }
+    ensures table_after { table.new ≡ table_after clock domain.now id.now policy.now table.old texts.old }
+    ensures texts_after { texts.new ≡ texts_after clock domain.now id.now policy.now table.old texts.old }
 {
-    if n != ENTRIES {
-        return refused_plan(74, n, m);
+    let cache = Cache {
+        clock,
+        table,
+        texts,
+    };
+    match cache.place_for(domain, id, policy) {
+        Ok(place) => {
+            table[place] = entry_for(clock, domain, id, policy);
+            writing::put(policy, texts, ROOM * place);
+            writing::done(0)
+        }
+        Err(refusal) => writing::refused(u64::from(refusal)),
     }
-    if m != BUFFER {
-        return refused_plan(74, n, m);
-    }
-    let clock_fits = clock::is_reading(Reading(clock));
-    if !clock_fits {
-        return refused_plan(62, n, m);
-    }
-    let named = names::is_name(domain);
-    if !named {
-        return refused_plan(60, n, m);
-    }
-    let id_fits = txt::is_id(id);
-    if !id_fits {
-        return refused_plan(80, n, m);
-    }
-    let answer = policies::read_policy(policy);
-    let number = answer.number;
-    if number != policies::ACCEPTED {
-        return refused_plan(number, n, m);
-    }
-    if ROOM < policy.len() {
-        return refused_plan(71, n, m);
-    }
-    if 4 <= s.rank {
-        return refused_plan(70, n, m);
-    }
-    let entry = entry_for(clock, domain, id, policy);
-    Plan {
-        number: 15,
-        place: s.place,
-        entry,
-    }
-}
-
-// Writes one entry; outside the table nothing.
-pub fn put<'a>(table: &'a mut [CacheEntry], i: usize, e: CacheEntry)
-    ensures { table.new ≡ set table.old i e }
-{
-    if i < table.len() {
-        table[i] = e;
-    }
-}
-
-// Writes a text into the part of the buffer for the entry at position i; outside the buffer nothing.
-pub fn put_text<'a, 'b>(i: usize, policy: &'a [u8], texts: &'b mut [u8])
-    ensures { texts.new ≡ over (text_place i) policy.now texts.old }
-{
-    if texts.len() / ROOM < i {
-        return;
-    }
-    writing::put(policy, texts, ROOM * i);
 }
 
 // An answer with its number only.
+#[tactic(auto, unfolding(crate::specs::Lookup::only_number))]
 fn only_number(number: u64) -> CacheAnswer
     ensures { result ≡ only_number number }
 {
@@ -510,49 +379,17 @@ fn only_number(number: u64) -> CacheAnswer
     }
 }
 
-// The answer to a lookup by what was found.
-fn answer_by(texts: &[u8], s: Found) -> CacheAnswer
-    ensures { result ≡ answer_by texts.now s }
+// The live policy that the table holds for a domain.
+pub fn lookup(clock: u64, domain: &[u8], table: &[CacheEntry], texts: &[u8]) -> CacheAnswer
+    ensures { result ≡ lookup_answer clock domain.now table.now texts.now }
 {
-    if s.rank != 0 {
-        return only_number(72);
+    let cache = Cache {
+        clock,
+        table,
+        texts,
+    };
+    match cache.live_place(domain) {
+        Ok(place) => cache.answer_at(place),
+        Err(refusal) => only_number(u64::from(refusal)),
     }
-    let place = s.place;
-    if ENTRIES <= place {
-        return only_number(72);
-    }
-    let text = text_part(texts, place, s.length);
-    let field = s.id;
-    let size = unfilled_length(&field);
-    let id = filled_id(&field[0..size]);
-    CacheAnswer {
-        number: 15,
-        length: 0,
-        text_start: (ROOM * place) as u64,
-        text_length: text.len() as u64,
-        fetched: s.fetched,
-        id_length: size as u64,
-        id,
-    }
-}
-
-// The answer to a lookup in a table of n entries: the refusals in their order, then what was found.
-pub fn lookup_answer(clock: u64, domain: &[u8], n: usize, texts: &[u8], s: Found) -> CacheAnswer
-    ensures { result ≡ answer_from clock domain.now n texts.now s }
-{
-    if n != ENTRIES {
-        return only_number(74);
-    }
-    if texts.len() != BUFFER {
-        return only_number(74);
-    }
-    let clock_fits = clock::is_reading(Reading(clock));
-    if !clock_fits {
-        return only_number(62);
-    }
-    let named = names::is_name(domain);
-    if !named {
-        return only_number(60);
-    }
-    answer_by(texts, s)
 }

@@ -1,24 +1,24 @@
 -- The returns of `set_match`, `dane_passes` and `shows_host`. Assumes nothing.
-use Prim.Native.Nat.{ℕ, ◌+◌, ◌-◌, ◌<◌, ◌≤◌}
+use Prim.Native.Nat.{ℕ}
 use mathlib.Core.Path.{◌≡◌, refl, sym, ◌∙◌}
 use mathlib.Core.Bool.{Bool, true, false, not, ◌&&◌, ◌||◌}
-use mathlib.Core.List.{List, ◌∷◌}
+use mathlib.Core.List.{List, [], ◌∷◌}
 use native.Mathlib.Omega.{arith}
 use lib.Dec.{eqb}
-use lib.ListN.{length, get_or, take, drop}
+use lib.ListN.{length}
 use borrow.Author.Rules.{rules}
 use borrow.Author.Tests.{not-true, not-false, lt-ltb}
 use Rattle.lists.specs.Bytes.{any}
 use Rattle.lists.proofs.Any.{any_more}
 use Rattle.lists.proofs.Bools.{never, apart}
 use Rattle.numbers.specs.Numbers.{numbers}
-use Rattle.numbers.specs.Pieces.{cut, end_of}
-use Rattle.numbers.proofs.Pieces.{cut_next, cut_end, end_after, end_within}
+use Rattle.numbers.specs.Pieces.{pieces_in}
 use Rattle.tlsa.specs.Record.{usage_of, counts}
-use Rattle.certificates.specs.Facts.{Certificate, certificates_of, dns_ids_of, common_name_of, presented_of}
+use Rattle.certificates.specs.Facts.{Certificate, certificates_in, text_in, presented_by}
 use Rattle.names.specs.Name.{some_matches}
 use Rattle.certificates.specs.Checks.{matches_certificate, matches_on_path, leaf_of, after_leaf, record_matches, one_matches, leaf_names, names_reference, dane_passes, shows_host}
 use Rattle.certificates.specs.Steps.{sha512_of, passes, match_of}
+use Rattle.certificates.specs.declared.CertificateFacts.{CertificateFacts}
 use Rattle.certificates.specs.declared.Match.{Match}
 use Rattle.certificates.specs.declared.Sha512Pairs.{Sha512Pairs}
 use Rattle.certificates.proofs.Limits.{certificates_count}
@@ -70,45 +70,38 @@ turn_nothing : (wanted a b p x y : Bool) → (wanted ≡ true → p ≡ b) → m
 turn_nothing true a b p x y s h = let w = nothing_is a p h in rw (w.0, ← s refl, w.1)
 turn_nothing false a b p x y s h = rw (nothing_is a p h).0
 
--- `set_match`: m is what `record_match` gave of the record at hand
-module _ (found : Sha512Pairs) (certs : List Certificate) (s ns : List ℕ) (wanted : Bool) (at k n : ℕ) (inv : match_of (any (passes found false certs) (cut s ns)) (any (passes found true certs) (cut s ns)) ≡ match_of (any (passes found false certs) (cut (drop at s) (drop k ns))) (not wanted || any (passes found true certs) (cut (drop at s) (drop k ns)))) (counted : n ≡ length ns) where
-  pub set_none : n ≤ k → wanted ≡ true → Match.Nothing ≡ match_of (any (passes found false certs) (cut s ns)) (any (passes found true certs) (cut s ns))
+-- `set_match`: a turn at r, which leaves ys of xs, and the end. m is what `record_match` gave
+abbrev pub left_match : Sha512Pairs → List Certificate → (wanted : Bool) → List (List ℕ) → Match
+left_match found certs wanted xs = match_of (any (passes found false certs) xs) (not wanted || any (passes found true certs) xs)
+
+-- what the pairs of the set itself come to
+pub by_found : (found : Sha512Pairs) (certs : List Certificate) (set : List (List ℕ)) (m : Match) → found ≡ sha512_of set → left_match found certs true set ≡ m → m ≡ match_of (any (passes (sha512_of set) false certs) set) (any (passes (sha512_of set) true certs) set)
+by_found found certs set m e h = sym h ∙ rw e
+
+module _ (found : Sha512Pairs) (certs : List Certificate) (wanted : Bool) (xs : List (List ℕ)) where
+  pub set_none : xs ≡ [] → wanted ≡ true → left_match found certs wanted xs ≡ Match.Nothing
   unfolding any match_of
-  set_none h o = let g : length ns ≤ k = omega arith in sym (inv ∙ rw (cut_end s ns at k g, o))
+  set_none e o = rw (e, o)
 
-  pub set_left_named : n ≤ k → wanted ≡ false → Match.Named ≡ match_of (any (passes found false certs) (cut s ns)) (any (passes found true certs) (cut s ns))
+  pub set_left_named : xs ≡ [] → wanted ≡ false → left_match found certs wanted xs ≡ Match.Named
   unfolding any match_of
-  set_left_named h o = let g : length ns ≤ k = omega arith in sym (inv ∙ rw (cut_end s ns at k g, o))
+  set_left_named e o = rw (e, o)
 
-  module _ (h : k < n) (w : at ≤ length s) (e : ℕ) (ends : e ≡ end_of (length s) at (get_or ns k 0)) (m : Match) (gave : m ≡ match_of (passes found false certs (take (e - at) (drop at s))) (passes found wanted certs (take (e - at) (drop at s)))) where
-    here : cut (drop at s) (drop k ns) ≡ take (e - at) (drop at s) ∷ cut (drop e s) (drop (k + 1) ns)
-    here = cut_next s ns at k e ends w (omega arith)
-
-    while_wanted : wanted ≡ true → passes found wanted certs (take (e - at) (drop at s)) ≡ passes found true certs (take (e - at) (drop at s))
+  module _ (r : List ℕ) (ys : List (List ℕ)) (e : xs ≡ r ∷ ys) (m : Match) (gave : m ≡ match_of (passes found false certs r) (passes found wanted certs r)) where
+    while_wanted : wanted ≡ true → passes found wanted certs r ≡ passes found true certs r
     while_wanted o = rw o
 
-    pub set_unnamed : m ≡ Match.Unnamed → Match.Unnamed ≡ match_of (any (passes found false certs) (cut s ns)) (any (passes found true certs) (cut s ns))
+    pub set_unnamed : m ≡ Match.Unnamed → left_match found certs wanted xs ≡ Match.Unnamed
     unfolding any
-    set_unnamed q =
-        turn_unnamed (passes found false certs (take (e - at) (drop at s))) (passes found wanted certs (take (e - at) (drop at s))) (any (passes found false certs) (cut (drop e s) (drop (k + 1) ns)))
-        (not wanted || (passes found true certs (take (e - at) (drop at s)) || any (passes found true certs) (cut (drop e s) (drop (k + 1) ns)))) (sym gave ∙ q)
-        ∙ sym (rw here at inv)
+    set_unnamed q = rw e (sym (turn_unnamed (passes found false certs r) (passes found wanted certs r) (any (passes found false certs) ys) (not wanted || (passes found true certs r || any (passes found true certs) ys)) (sym gave ∙ q)))
 
-    pub set_named : m ≡ Match.Named → match_of (any (passes found false certs) (cut s ns)) (any (passes found true certs) (cut s ns)) ≡ match_of (any (passes found false certs) (cut (drop e s) (drop (k + 1) ns))) true
+    pub set_named : m ≡ Match.Named → left_match found certs wanted xs ≡ left_match found certs false ys
     unfolding any
-    set_named q =
-        (rw here at inv)
-        ∙ turn_named wanted (passes found false certs (take (e - at) (drop at s))) (passes found true certs (take (e - at) (drop at s))) (passes found wanted certs (take (e - at) (drop at s)))
-        (any (passes found false certs) (cut (drop e s) (drop (k + 1) ns))) (any (passes found true certs) (cut (drop e s) (drop (k + 1) ns))) while_wanted (sym gave ∙ q)
+    set_named q = rw e (turn_named wanted (passes found false certs r) (passes found true certs r) (passes found wanted certs r) (any (passes found false certs) ys) (any (passes found true certs) ys) while_wanted (sym gave ∙ q))
 
-    pub set_nothing : m ≡ Match.Nothing → match_of (any (passes found false certs) (cut s ns)) (any (passes found true certs) (cut s ns)) ≡ match_of (any (passes found false certs) (cut (drop e s) (drop (k + 1) ns))) (not wanted || any (passes found true certs) (cut (drop e s) (drop (k + 1) ns)))
+    pub set_nothing : m ≡ Match.Nothing → left_match found certs wanted xs ≡ left_match found certs wanted ys
     unfolding any
-    set_nothing q =
-        (rw here at inv)
-        ∙ turn_nothing wanted (passes found false certs (take (e - at) (drop at s))) (passes found true certs (take (e - at) (drop at s))) (passes found wanted certs (take (e - at) (drop at s)))
-        (any (passes found false certs) (cut (drop e s) (drop (k + 1) ns))) (any (passes found true certs) (cut (drop e s) (drop (k + 1) ns))) while_wanted (sym gave ∙ q)
-
-pub ruleset set_laws = (set_none, set_left_named, set_unnamed, set_named, set_nothing, end_after, end_within, rules)
+    set_nothing q = rw e (turn_nothing wanted (passes found false certs r) (passes found true certs r) (passes found wanted certs r) (any (passes found false certs) ys) (any (passes found true certs) ys) while_wanted (sym gave ∙ q))
 
 -- `dane_passes`: m and b are what its calls gave
 module _ (set : List (List ℕ)) (certs : List Certificate) where
@@ -120,47 +113,50 @@ module _ (set : List (List ℕ)) (certs : List Certificate) where
   unmatched true x y = y
   unmatched false x y = x
 
-module _ (refs set : List (List ℕ)) (C L P D Q : List ℕ) (root : Bool) (I X : List ℕ) (given : Bool) (N : List ℕ) (found : Sha512Pairs) (fe : found ≡ sha512_of set) (m : Match) (me : m ≡ match_of (any (passes found false (certificates_of C L P D Q)) set) (any (passes found true (certificates_of C L P D Q)) set)) where
-  says : dane_passes refs set (presented_of C L P D Q root I X given N) ≡ one_matches (any (some_matches (leaf_names (dns_ids_of I X) (common_name_of given N))) refs) set (certificates_of C L P D Q)
-  unfolding dane_passes names_reference presented_of
+module _ (refs set : List (List ℕ)) (f : CertificateFacts) (m : Match) (me : m ≡ match_of (any (passes (sha512_of set) false (certificates_in f.chain)) set) (any (passes (sha512_of set) true (certificates_in f.chain)) set)) where
+  says : dane_passes refs set (presented_by f) ≡ one_matches (any (some_matches (leaf_names (pieces_in f.dns_ids) (text_in f.common_name))) refs) set (certificates_in f.chain)
+  unfolding dane_passes names_reference presented_by
   says = refl
 
-  by_one : m ≡ match_of (one_matches false set (certificates_of C L P D Q)) (one_matches true set (certificates_of C L P D Q))
-  by_one = me ∙ rw (fe, one_passes set false (certificates_of C L P D Q), one_passes set true (certificates_of C L P D Q))
+  by_one : m ≡ match_of (one_matches false set (certificates_in f.chain)) (one_matches true set (certificates_in f.chain))
+  by_one = me ∙ rw (one_passes set false (certificates_in f.chain), one_passes set true (certificates_in f.chain))
 
-  pub dane_unnamed : m ≡ Match.Unnamed → true ≡ dane_passes refs set (presented_of C L P D Q root I X given N)
+  pub dane_unnamed : m ≡ Match.Unnamed → true ≡ dane_passes refs set (presented_by f)
   dane_unnamed q =
-      let named = any (some_matches (leaf_names (dns_ids_of I X) (common_name_of given N))) refs in
-      let certs = certificates_of C L P D Q in
+      let named = any (some_matches (leaf_names (pieces_in f.dns_ids) (text_in f.common_name))) refs in
+      let certs = certificates_in f.chain in
       sym (says ∙ any_more (λ (r : List ℕ). counts set r && record_matches false certs r) (λ (r : List ℕ). counts set r && record_matches named certs r) (named_helps set certs named) set (unnamed_is (one_matches false set certs) (one_matches true set certs) (sym by_one ∙ q)))
 
-  pub dane_unmatched : m ≡ Match.Nothing → false ≡ dane_passes refs set (presented_of C L P D Q root I X given N)
+  pub dane_unmatched : m ≡ Match.Nothing → false ≡ dane_passes refs set (presented_by f)
   dane_unmatched q =
-      let certs = certificates_of C L P D Q in
+      let certs = certificates_in f.chain in
       let w = nothing_is (one_matches false set certs) (one_matches true set certs) (sym by_one ∙ q) in
-      sym (says ∙ unmatched set certs (any (some_matches (leaf_names (dns_ids_of I X) (common_name_of given N))) refs) w.0 w.1)
+      sym (says ∙ unmatched set certs (any (some_matches (leaf_names (pieces_in f.dns_ids) (text_in f.common_name))) refs) w.0 w.1)
 
-  pub dane_named : m ≡ Match.Named → (b : Bool) → b ≡ any (some_matches (leaf_names (dns_ids_of I X) (common_name_of given N))) refs → b ≡ dane_passes refs set (presented_of C L P D Q root I X given N)
+  pub dane_named : m ≡ Match.Named → (b : Bool) → b ≡ any (some_matches (leaf_names (pieces_in f.dns_ids) (text_in f.common_name))) refs → b ≡ dane_passes refs set (presented_by f)
   dane_named q b be =
-      let certs = certificates_of C L P D Q in
+      let certs = certificates_in f.chain in
       let w = named_is (one_matches false set certs) (one_matches true set certs) (sym by_one ∙ q) in
-      be ∙ sym (says ∙ by_names set certs (any (some_matches (leaf_names (dns_ids_of I X) (common_name_of given N))) refs) w.0 w.1)
+      be ∙ sym (says ∙ by_names set certs (any (some_matches (leaf_names (pieces_in f.dns_ids) (text_in f.common_name))) refs) w.0 w.1)
 
 pub ruleset dane_laws = (dane_unnamed, dane_unmatched, dane_named, rules)
 
--- `shows_host`: n is what `count` gave, r what `has_dns_id` gave
-module _ (host C L P D Q : List ℕ) (root : Bool) (I X : List ℕ) (given : Bool) (N : List ℕ) where
-  pub host_root : root ≡ false → false ≡ shows_host host (presented_of C L P D Q root I X given N)
-  unfolding shows_host presented_of
-  host_root f = rw f
+-- `shows_host`: n is what `count` gave, r what `some_match` gave
+module _ (host : List ℕ) (f : CertificateFacts) where
+  pub host_root : f.trusted_root ≡ false → false ≡ shows_host host (presented_by f)
+  unfolding shows_host presented_by
+  host_root e = rw e
 
-  module _ (t : root ≡ true) (n : ℕ) (counted : n ≡ length (numbers L)) where
-    pub host_none : n ≡ 0 → false ≡ shows_host host (presented_of C L P D Q root I X given N)
-    unfolding shows_host presented_of
-    host_none z = let g : length (certificates_of C L P D Q) ≡ 0 = omega (arith, certificates_count C L P D Q) in cc
+  module _ (t : f.trusted_root ≡ true) (n : ℕ) (counted : n ≡ length (numbers f.chain.lengths.now)) where
+    certificates : length (certificates_in f.chain) ≡ n
+    certificates = certificates_count f.chain.certificates.now f.chain.lengths.now f.chain.key_places.now f.chain.digests.now f.chain.paths.now ∙ sym counted
 
-    pub host_id : (n ≡ 0 → ⊥) → (r : Bool) → r ≡ some_matches (dns_ids_of I X) host → r ≡ shows_host host (presented_of C L P D Q root I X given N)
-    unfolding shows_host presented_of
-    host_id z r e = rw (t, lt-ltb 0 (length (certificates_of C L P D Q)) (omega (arith, certificates_count C L P D Q))) e
+    pub host_none : n ≡ 0 → false ≡ shows_host host (presented_by f)
+    unfolding shows_host presented_by
+    host_none z = let g : length (certificates_in f.chain) ≡ 0 = certificates ∙ z in cc
+
+    pub host_id : (n ≡ 0 → ⊥) → (r : Bool) → r ≡ some_matches (pieces_in f.dns_ids) host → r ≡ shows_host host (presented_by f)
+    unfolding shows_host presented_by
+    host_id z r e = rw (t, lt-ltb 0 (length (certificates_in f.chain)) (omega (arith, certificates))) e
 
 pub ruleset host_laws = (host_root, host_none, host_id, not-true, not-false, rules)

@@ -1,7 +1,7 @@
 -- The returns of the functions that read digests, path flags and key places. k is the place of the certificate. Assumes nothing.
 use Prim.Native.Nat.{ℕ, suc, ◌+◌, ◌*◌, ◌-◌, ◌/◌, ◌<◌, ◌≤◌}
-use mathlib.Core.Path.{◌≡◌, sym}
-use mathlib.Core.Bool.{Bool, true, false, ◌||◌}
+use mathlib.Core.Path.{◌≡◌, sym, ◌∙◌}
+use mathlib.Core.Bool.{Bool, true, false, ◌&&◌, ◌||◌}
 use mathlib.Core.List.{List}
 use native.Mathlib.Omega.{arith}
 use lib.Dec.{eqb}
@@ -59,36 +59,28 @@ on_path_is Q k q e = rw e
 
 pub ruleset on_path_laws = (on_path_is, rules)
 
--- `is_digest_on_path`: b and r are what `is_on_path` and `is_digest` gave
-module _ (held D Q : List ℕ) (from k : ℕ) (b : Bool) (given : b ≡ eqb (get_or (numbers Q) k 0) 1) where
-  pub digest_off_path : b ≡ false → false ≡ digest_on_path held from D Q k
-  unfolding digest_on_path
-  digest_off_path f = rw (← given, f)
-
-  pub digest_on_path_lem : b ≡ true → (r : Bool) → r ≡ same_bytes held (digest_at D k from (length held)) → r ≡ digest_on_path held from D Q k
-  unfolding digest_on_path
-  digest_on_path_lem t r e = rw (← given, t) e
-
-pub ruleset digest_on_path_laws = (digest_off_path, digest_on_path_lem, not-true, not-false, rules)
-
--- a loop over the places from the second of n on: r is what the test p gave of the place k
-module _ (p : ℕ → Bool) (n k : ℕ) (inv : any_place p 1 (n - 1) ≡ any_place p k (n - k)) where
-  pub place_none : n ≤ k → false ≡ any_place p 1 (n - 1)
+-- `is_digest_after_leaf`, at place k of n: b and r are what `is_on_path` and `is_digest` gave
+module _ (held D Q : List ℕ) (from n k : ℕ) (inv : any_place (digest_on_path held from D Q) 1 (n - 1) ≡ any_place (digest_on_path held from D Q) k (n - k)) where
+  pub place_none : n ≤ k → false ≡ any_place (digest_on_path held from D Q) 1 (n - 1)
   unfolding any_place
   place_none h = let z : n - k ≡ 0 = omega arith in sym (rw z at inv)
 
-  module _ (h : k < n) (r : Bool) (gave : r ≡ p k) where
-    here : any_place p 1 (n - 1) ≡ (r || any_place p (k + 1) (n - (k + 1)))
-    unfolding any_place
-    here = let z : n - k ≡ suc (n - (k + 1)) = omega arith in rw gave (rw z at inv)
+  module _ (h : k < n) (b : Bool) (given : b ≡ eqb (get_or (numbers Q) k 0) 1) where
+    here : any_place (digest_on_path held from D Q) 1 (n - 1) ≡ ((b && same_bytes held (digest_at D k from (length held))) || any_place (digest_on_path held from D Q) (k + 1) (n - (k + 1)))
+    unfolding any_place digest_on_path
+    here = let z : n - k ≡ suc (n - (k + 1)) = omega arith in rw given (rw z at inv)
 
-    pub place_next : r ≡ false → any_place p 1 (n - 1) ≡ any_place p (k + 1) (n - (k + 1))
-    place_next f = rw f at here
+    pub place_off : b ≡ false → any_place (digest_on_path held from D Q) 1 (n - 1) ≡ any_place (digest_on_path held from D Q) (k + 1) (n - (k + 1))
+    place_off f = rw f at here
 
-    pub place_hit : r ≡ true → true ≡ any_place p 1 (n - 1)
-    place_hit t = sym (rw t at here)
+    module _ (on : b ≡ true) (r : Bool) (gave : r ≡ same_bytes held (digest_at D k from (length held))) where
+      pub place_next : r ≡ false → any_place (digest_on_path held from D Q) 1 (n - 1) ≡ any_place (digest_on_path held from D Q) (k + 1) (n - (k + 1))
+      place_next f = here ∙ rw (on, ← gave, f)
 
-pub ruleset place_test_laws = (place_none, place_next, place_hit, not-true, not-false, rules)
+      pub place_hit : r ≡ true → true ≡ any_place (digest_on_path held from D Q) 1 (n - 1)
+      place_hit t = sym (here ∙ rw (on, ← gave, t))
+
+pub ruleset place_test_laws = (place_none, place_off, place_next, place_hit, not-true, not-false, rules)
 
 -- `key_start` and `key_length`: s is the list of places
 pub start_outside : (s : List ℕ) (k : ℕ) → length s / 8 < k → 0 ≡ get_or (numbers s) (k * 2) 0

@@ -12,11 +12,14 @@ use borrow.Author.Tests.{not-true, not-false, eq-eqb, ne_eqb, le-leb, lt-leb}
 use Rattle.lists.specs.Bytes.{all}
 use Rattle.lists.proofs.Laws.{drop_next}
 use Rattle.numbers.specs.Numbers.{numbers, sum, at_most}
-use Rattle.numbers.specs.Pieces.{cut, numbered, sums_to, up_to}
-use Rattle.numbers.proofs.Pieces.{cut_count, cut_joined, sums_true, sizes}
+use Rattle.std.specs.Borrow.{Bor}
+use Rattle.std.specs.Prelude as S
+use Rattle.numbers.specs.Pieces.{cut, numbered, sums_to, up_to, pieces_in}
+use Rattle.numbers.proofs.Cut.{cut_count, cut_joined, sums_true, sizes}
 use Rattle.numbers.proofs.Loop.{placed_count}
-use Rattle.certificates.specs.Facts.{certificate_at, certificates_of, dns_ids_of, common_name_of}
-use Rattle.certificates.specs.Limits.{certificate_fits, total_of, chain_keeps_limits, common_name_fits, names_keep_limits, one_for_each, chain_fits, names_fit, facts_fit}
+use Rattle.certificates.specs.Facts.{certificate_at, certificates_of, text_in}
+use Rattle.certificates.specs.Limits.{certificate_fits, total_of, chain_keeps_limits, common_name_fits, names_keep_limits, one_for_each, chain_fits, chain_keeps, names_keep, facts_keep}
+use Rattle.certificates.specs.declared.CertificateFacts.{CertificateFacts}
 use Rattle.certificates.specs.Steps.{places_fit}
 
 -- `places_fit`: ps are the numbers of the key places, ns the lengths; b and r are what `number` and `is_inside` gave at place k
@@ -127,43 +130,43 @@ module _ (n : ℕ) (P D Q : List ℕ) where
 
 pub ruleset one_for_each_laws = (each_places, each_digests, each_paths, rules)
 
--- `names_fit`: I, X and N are the DNS-IDs, their lengths and the common name; n and f are what its calls gave
-module _ (I X N : List ℕ) (given : Bool) (n : ℕ) (ne : n ≡ length (numbers X)) where
-  pub names_count : 64 < n → false ≡ names_fit I X given N
-  unfolding names_fit names_keep_limits
-  names_count h = rw (cut_count I (numbers X), ← ne, lt-leb n 64 h) (sym (and-false (sums_to X (length I))))
+-- `names_fit`: n and k are what its calls gave
+module _ (f : CertificateFacts) (n : ℕ) (ne : n ≡ length (numbers f.dns_ids.lengths.now)) where
+  pub names_count : 64 < n → false ≡ names_keep f
+  unfolding names_keep names_keep_limits
+  names_count h = rw (cut_count f.dns_ids.bytes.now (numbers f.dns_ids.lengths.now), ← ne, lt-leb n 64 h) (sym (and-false (sums_to f.dns_ids.lengths.now (length f.dns_ids.bytes.now))))
 
-  module _ (few : n ≤ 64) (f : Bool) (fe : f ≡ (sums_to X (length I) && all (at_most 255) (numbers X))) where
-    ids_fit : (w : Bool) → w ≡ sums_to X (length I) → (w && names_keep_limits (dns_ids_of I X) (common_name_of given N)) ≡ ((w && all (at_most 255) (numbers X)) && common_name_fits (common_name_of given N))
+  module _ (few : n ≤ 64) (k : Bool) (ke : k ≡ (sums_to f.dns_ids.lengths.now (length f.dns_ids.bytes.now) && all (at_most 255) (numbers f.dns_ids.lengths.now))) where
+    ids_fit : (w : Bool) → w ≡ sums_to f.dns_ids.lengths.now (length f.dns_ids.bytes.now) → (w && names_keep_limits (pieces_in f.dns_ids) (text_in f.common_name)) ≡ ((w && all (at_most 255) (numbers f.dns_ids.lengths.now)) && common_name_fits (text_in f.common_name))
     unfolding names_keep_limits
-    ids_fit true e = rw (cut_count I (numbers X), ← ne, le-leb n 64 few, sizes 255 I X true e refl)
+    ids_fit true e = rw (cut_count f.dns_ids.bytes.now (numbers f.dns_ids.lengths.now), ← ne, le-leb n 64 few, sizes 255 f.dns_ids.bytes.now f.dns_ids.lengths.now true e refl)
     ids_fit false e = refl
 
-    parts_named : names_fit I X given N ≡ (f && common_name_fits (common_name_of given N))
-    unfolding names_fit
-    parts_named = rw (ids_fit (sums_to X (length I)) refl, ← fe)
+    parts_named : names_keep f ≡ (k && common_name_fits (text_in f.common_name))
+    unfolding names_keep
+    parts_named = rw (ids_fit (sums_to f.dns_ids.lengths.now (length f.dns_ids.bytes.now)) refl, ← ke)
 
-    pub names_unfit : f ≡ false → false ≡ names_fit I X given N
+    pub names_unfit : k ≡ false → false ≡ names_keep f
     names_unfit t = sym (rw t at parts_named)
 
-    pub names_none : f ≡ true → given ≡ false → true ≡ names_fit I X given N
+    pub names_none : k ≡ true → f.common_name ≡ S.None → true ≡ names_keep f
     unfolding common_name_fits
     names_none t h = sym (parts_named ∙ rw (t, h))
 
-    pub names_common : f ≡ true → given ≡ true → leb (length N) 255 ≡ names_fit I X given N
+    pub names_common : k ≡ true → (name : Bor (List ℕ)) → f.common_name ≡ S.Some name → leb (length name.now) 255 ≡ names_keep f
     unfolding common_name_fits up_to
-    names_common t h = sym (parts_named ∙ rw (t, h))
+    names_common t name h = sym (parts_named ∙ rw (t, h))
 
 pub ruleset names_fit_laws = (names_count, names_unfit, names_none, names_common, not-true, not-false, rules)
 
--- `facts_fit`: c and r are what its calls gave
-module _ (C L P D Q I X : List ℕ) (given : Bool) (N : List ℕ) (c : Bool) (ce : c ≡ chain_fits C L P D Q) where
-  pub facts_chain : c ≡ false → false ≡ facts_fit C L P D Q I X given N
-  unfolding facts_fit
+-- `CertificateFacts::fits`: c and r are what its calls gave
+module _ (f : CertificateFacts) (c : Bool) (ce : c ≡ chain_keeps f.chain) where
+  pub facts_chain : c ≡ false → false ≡ facts_keep f
+  unfolding facts_keep
   facts_chain t = cc
 
-  pub facts_names : c ≡ true → (r : Bool) → r ≡ names_fit I X given N → r ≡ facts_fit C L P D Q I X given N
-  unfolding facts_fit
+  pub facts_names : c ≡ true → (r : Bool) → r ≡ names_keep f → r ≡ facts_keep f
+  unfolding facts_keep
   facts_names t r e = cc
 
 pub ruleset facts_laws = (facts_chain, facts_names, not-true, not-false, rules)

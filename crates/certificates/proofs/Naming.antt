@@ -4,6 +4,8 @@ use mathlib.Core.Path.{◌≡◌, refl, sym, ◌∙◌}
 use mathlib.Core.Bool.{Bool, true, false, or-false}
 use mathlib.Core.List.{List, [], ◌∷◌}
 use mathlib.Core.Option.{Option}
+use Rattle.std.specs.Borrow.{Bor}
+use Rattle.std.specs.Prelude as S
 use native.Mathlib.Omega.{arith}
 use lib.ListN.{length}
 use borrow.Author.Rules.{rules}
@@ -11,7 +13,7 @@ use borrow.Author.Tests.{not-true, not-false}
 use Rattle.lists.specs.Bytes.{any}
 use Rattle.numbers.specs.Pieces.{cut}
 use Rattle.names.specs.Name.{some_matches}
-use Rattle.certificates.specs.Facts.{when, common_name_of}
+use Rattle.certificates.specs.Facts.{text_in}
 use Rattle.certificates.specs.Checks.{further_reference, references, leaf_names}
 use Rattle.certificates.specs.declared.Origin.{Origin}
 use Rattle.certificates.specs.declared.Origin.TheVariants.{SecureMx, InsecureMx, NoMx}
@@ -28,36 +30,36 @@ unfolding cut
 none_listed s [] common h = refl
 none_listed s (n ∷ ns) common h = absurd (omega arith)
 
--- `leaf_names`: n is what `count` gave, r what the last call gave; p is the test of a name
-module _ (p : List ℕ → Bool) (s ns common : List ℕ) (given : Bool) (n : ℕ) (counted : n ≡ length ns) where
-  pub leaf_ids : (n ≡ 0 → ⊥) → (r : Bool) → r ≡ any p (cut s ns) → r ≡ any p (leaf_names (cut s ns) (common_name_of given common))
-  leaf_ids z r e = rw (some_listed s ns (common_name_of given common) (λ q. z (counted ∙ q))) e
+-- `has_name`: n is what `count` gave, r what the last call gave; p is the test of a name
+module _ (p : List ℕ → Bool) (s ns : List ℕ) (common : S.Option (Bor (List ℕ))) (n : ℕ) (counted : n ≡ length ns) where
+  pub leaf_ids : (n ≡ 0 → ⊥) → (r : Bool) → r ≡ any p (cut s ns) → r ≡ any p (leaf_names (cut s ns) (text_in common))
+  leaf_ids z r e = rw (some_listed s ns (text_in common) (λ q. z (counted ∙ q))) e
 
   module _ (z : n ≡ 0) where
-    pub leaf_nameless : given ≡ false → false ≡ any p (leaf_names (cut s ns) (common_name_of given common))
+    pub leaf_nameless : common ≡ S.None → false ≡ any p (leaf_names (cut s ns) (text_in common))
     unfolding leaf_names any
-    leaf_nameless h = rw (none_listed s ns (common_name_of given common) (sym counted ∙ z), h)
+    leaf_nameless h = rw (none_listed s ns (text_in common) (sym counted ∙ z), h)
 
-    pub leaf_common : given ≡ true → (r : Bool) → r ≡ p common → r ≡ any p (leaf_names (cut s ns) (common_name_of given common))
+    pub leaf_common : (name : Bor (List ℕ)) → common ≡ S.Some name → (r : Bool) → r ≡ p name.now → r ≡ any p (leaf_names (cut s ns) (text_in common))
     unfolding leaf_names any
-    leaf_common h r e = rw (none_listed s ns (common_name_of given common) (sym counted ∙ z), h) (e ∙ sym (or-false (p common)))
+    leaf_common name h r e = rw (none_listed s ns (text_in common) (sym counted ∙ z), h) (e ∙ sym (or-false (p name.now)))
 
 pub ruleset leaf_names_laws = (leaf_ids, leaf_nameless, leaf_common, not-true, not-false, rules)
 
 -- `names_next_hop`: f and r are what the calls gave, ids are the names that count
-module _ (ids : List (List ℕ)) (next expanded : List ℕ) (given f : Bool) (fe : f ≡ some_matches ids next) where
-  pub next_hop_named : f ≡ true → true ≡ any (some_matches ids) (next ∷ further_reference next (when given expanded))
+module _ (ids : List (List ℕ)) (next : List ℕ) (expanded : S.Option (Bor (List ℕ))) (f : Bool) (fe : f ≡ some_matches ids next) where
+  pub next_hop_named : f ≡ true → true ≡ any (some_matches ids) (next ∷ further_reference next (text_in expanded))
   unfolding any
   next_hop_named t = rw (sym fe ∙ t)
 
   module _ (ff : f ≡ false) where
-    pub next_hop_alone : given ≡ false → false ≡ any (some_matches ids) (next ∷ further_reference next (when given expanded))
+    pub next_hop_alone : expanded ≡ S.None → false ≡ any (some_matches ids) (next ∷ further_reference next (text_in expanded))
     unfolding further_reference any
     next_hop_alone h = rw (sym fe ∙ ff, h)
 
-    pub next_hop_further : given ≡ true → (r : Bool) → r ≡ some_matches ids expanded → r ≡ any (some_matches ids) (next ∷ further_reference next (when given expanded))
+    pub next_hop_further : (name : Bor (List ℕ)) → expanded ≡ S.Some name → (r : Bool) → r ≡ some_matches ids name.now → r ≡ any (some_matches ids) (next ∷ further_reference next (text_in expanded))
     unfolding any
-    next_hop_further h r e = rw (h, matches_further ids next expanded, sym fe ∙ ff, or-false (some_matches ids expanded)) e
+    next_hop_further name h r e = rw (h, matches_further ids next name.now, sym fe ∙ ff, or-false (some_matches ids name.now)) e
 
 pub ruleset next_hop_laws = (next_hop_named, next_hop_alone, next_hop_further, not-true, not-false, rules)
 

@@ -15,9 +15,9 @@ use Rattle.lists.specs.Equal.{same_bytes}
 use Rattle.lists.proofs.Bools.{apart, and_left, and_right}
 use Rattle.lists.proofs.Laws.{take_rest}
 use Rattle.numbers.specs.Numbers.{numbers}
-use Rattle.numbers.specs.Pieces.{cut, end_of, numbered}
-use Rattle.numbers.proofs.Pieces.{cut_count, end_after, end_within}
-use Rattle.numbers.proofs.Loop.{placed_next, placed_end, seek_next, seek_hit, seek_none}
+use Rattle.numbers.specs.Pieces.{cut, numbered}
+use Rattle.numbers.proofs.Cut.{cut_count}
+use Rattle.numbers.proofs.Numbers.{count_is}
 use Rattle.tlsa.specs.Record.{usage_of, selector_of, matching_type_of, data_of, short, is_usage, is_selector, data_fits, usable}
 use Rattle.certificates.specs.Facts.{Certificate, digest_at, certificate_at, certificates_of}
 use Rattle.certificates.specs.Checks.{by_type, compared, matches_certificate, matches_on_path, leaf_of, after_leaf, record_matches}
@@ -146,60 +146,67 @@ module _ (r : List ℕ) (z : matching_type_of r ≡ 0) (P D Q : List ℕ) where
   after_any [] = refl
   after_any (x ∷ xs) = any_whole 1 xs
 
--- the leaf ends inside the certificates
-pub leaf_within : (s : List ℕ) (n e : ℕ) → e ≡ end_of (length s) 0 n → e ≤ length s
-leaf_within s n e h = end_within s 0 n e h (omega arith)
+-- a loop over pieces with their places, from place k on: a turn at x, which leaves ys of xs, and the end
+module _ {A : Type 0} (p : A → Bool) (f : ℕ → List ℕ → A) (k : ℕ) (xs : List (List ℕ)) where
+  pub placed_none : xs ≡ [] → any p (numbered f k xs) ≡ false
+  unfolding any numbered
+  placed_none e = rw e
 
-pub ruleset leaf_end_laws = (leaf_within, rules)
+  module _ (x : List ℕ) (ys : List (List ℕ)) (e : xs ≡ x ∷ ys) (i : ℕ) (ie : i ≡ k) (r : Bool) (gave : r ≡ p (f i x)) where
+    pub placed_hit : r ≡ true → any p (numbered f k xs) ≡ true
+    unfolding any numbered
+    placed_hit t = rw (e, ← ie, ← gave, t)
 
--- n is what `count` gave, e the end of the leaf
-module _ (C L P D Q : List ℕ) (n : ℕ) (counted : n ≡ length (numbers L)) where
-  none_listed : n ≡ 0 → certificates_of C L P D Q ≡ []
-  unfolding certificates_of
-  none_listed z = placed_end (certificate_at P D Q) C (numbers L) 0 0 (omega arith)
+    pub placed_next : r ≡ false → (j : ℕ) → j ≡ k + 1 → any p (numbered f k xs) ≡ any p (numbered f j ys)
+    unfolding any numbered
+    placed_next t j je = rw (e, je) (rw (sym ie ∙ refl) (rw (← gave, t)))
 
-  leaf_first : (n ≡ 0 → ⊥) → (e : ℕ) → e ≡ end_of (length C) 0 (get_or (numbers L) 0 0) → certificates_of C L P D Q ≡ certificate_at P D Q 0 (take (e - 0) (drop 0 C)) ∷ numbered (certificate_at P D Q) 1 (cut (drop e C) (drop 1 (numbers L)))
-  unfolding certificates_of
-  leaf_first z e ends = placed_next (certificate_at P D Q) C (numbers L) 0 0 e ends (omega arith) (omega arith)
+-- there are as many pieces as lengths, fewer than a machine word can count
+pub few_pieces : (C L : List ℕ) (ps : List (List ℕ)) (n : ℕ) → ps ≡ cut C (numbers L) → length L < 18446744073709551616 → n ≡ 0 → n + length ps < 18446744073709551616
+few_pieces C L ps n e h z = omega (arith, ap length e, cut_count C (numbers L), count_is L)
+
+-- ps are the certificates' bytes, one after another
+module _ (C L P D Q : List ℕ) (ps : List (List ℕ)) (cuts : ps ≡ cut C (numbers L)) where
+  none_listed : ps ≡ [] → certificates_of C L P D Q ≡ []
+  unfolding certificates_of numbered
+  none_listed e = rw (← cuts, e)
+
+  leaf_first : (x : List ℕ) (xs : List (List ℕ)) → ps ≡ x ∷ xs → certificates_of C L P D Q ≡ certificate_at P D Q 0 x ∷ numbered (certificate_at P D Q) 1 xs
+  unfolding certificates_of numbered
+  leaf_first x xs e = rw (← cuts, e)
 
   module _ (entry : List ℕ) where
-    pub leaf_none : n ≡ 0 → false ≡ any (matches_certificate entry) (leaf_of (certificates_of C L P D Q))
+    pub leaf_none : ps ≡ [] → false ≡ any (matches_certificate entry) (leaf_of (certificates_of C L P D Q))
     unfolding any
-    leaf_none z = rw (none_listed z)
+    leaf_none e = rw (none_listed e)
 
-    pub leaf_whole : (n ≡ 0 → ⊥) → matching_type_of entry ≡ 0 → (e : ℕ) → e ≡ end_of (length C) 0 (get_or (numbers L) 0 0) → (r : Bool) → r ≡ matches_certificate entry (certificate_at P [] [] 0 (take (e - 0) (drop 0 C))) → r ≡ any (matches_certificate entry) (leaf_of (certificates_of C L P D Q))
+    pub after_none : ps ≡ [] → any (matches_on_path entry) (after_leaf (certificates_of C L P D Q)) ≡ false
     unfolding any
-    leaf_whole z w e ends r gave = rw (leaf_first z e ends) (gave ∙ (any_digests entry P D Q (take (e - 0) (drop 0 C)) 0 w ∙ sym (or-false (matches_certificate entry (certificate_at P D Q 0 (take (e - 0) (drop 0 C)))))))
+    after_none e = rw (none_listed e)
 
-    pub leaf_digest : (n ≡ 0 → ⊥) → usable entry ≡ true → (matching_type_of entry ≡ 0 → ⊥) → (from : ℕ) → from ≡ digest_start (get_or entry 1 0) (get_or entry 2 0) → (r : Bool) → r ≡ same_bytes (take (length entry - 3) (drop 3 entry)) (digest_at D 0 from (length (take (length entry - 3) (drop 3 entry)))) → r ≡ any (matches_certificate entry) (leaf_of (certificates_of C L P D Q))
-    unfolding any
-    leaf_digest z u w from f r gave =
-        let e = end_of (length C) 0 (get_or (numbers L) 0 0) in
-        let x = take (e - 0) (drop 0 C) in
-        rw (leaf_first z e refl) ((rw (take_rest entry 3, f) at gave) ∙ (sym (matches_digest entry u w P D Q 0 x) ∙ sym (or-false (matches_certificate entry (certificate_at P D Q 0 x)))))
+    module _ (x : List ℕ) (xs : List (List ℕ)) (e : ps ≡ x ∷ xs) where
+      pub leaf_whole : matching_type_of entry ≡ 0 → (r : Bool) → r ≡ matches_certificate entry (certificate_at P [] [] 0 x) → r ≡ any (matches_certificate entry) (leaf_of (certificates_of C L P D Q))
+      unfolding any
+      leaf_whole w r gave = rw (leaf_first x xs e) (gave ∙ (any_digests entry P D Q x 0 w ∙ sym (or-false (matches_certificate entry (certificate_at P D Q 0 x)))))
 
-    pub after_none : n ≡ 0 → false ≡ any (matches_on_path entry) (after_leaf (certificates_of C L P D Q))
-    unfolding any
-    after_none z = rw (none_listed z)
+      pub leaf_digest : usable entry ≡ true → (matching_type_of entry ≡ 0 → ⊥) → (from : ℕ) → from ≡ digest_start (get_or entry 1 0) (get_or entry 2 0) → (r : Bool) → r ≡ same_bytes (take (length entry - 3) (drop 3 entry)) (digest_at D 0 from (length (take (length entry - 3) (drop 3 entry)))) → r ≡ any (matches_certificate entry) (leaf_of (certificates_of C L P D Q))
+      unfolding any
+      leaf_digest u w from f r gave = rw (leaf_first x xs e) ((rw (take_rest entry 3, f) at gave) ∙ (sym (matches_digest entry u w P D Q 0 x) ∙ sym (or-false (matches_certificate entry (certificate_at P D Q 0 x)))))
 
-    pub after_start : (n ≡ 0 → ⊥) → (e : ℕ) → e ≡ end_of (length C) 0 (get_or (numbers L) 0 0) → any (matches_on_path entry) (after_leaf (certificates_of C L P D Q)) ≡ any (matches_on_path entry) (numbered (certificate_at P D Q) 1 (cut (drop e C) (drop 1 (numbers L))))
-    after_start z e ends = rw (leaf_first z e ends)
+      pub after_start : any (matches_on_path entry) (after_leaf (certificates_of C L P D Q)) ≡ any (matches_on_path entry) (numbered (certificate_at P D Q) 1 xs)
+      after_start = rw (leaf_first x xs e)
 
-  -- `matches_after_leaf`: r is what its last call gave
-  module _ (entry : List ℕ) where
-    pub after_digest : usable entry ≡ true → (matching_type_of entry ≡ 0 → ⊥) → (from : ℕ) → from ≡ digest_start (get_or entry 1 0) (get_or entry 2 0) → (r : Bool) → r ≡ any_place (digest_on_path (take (length entry - 3) (drop 3 entry)) from D Q) 1 (n - 1) → r ≡ any (matches_on_path entry) (after_leaf (certificates_of C L P D Q))
-    unfolding certificates_of
-    after_digest u w from f r gave =
-        let l : length (cut C (numbers L)) ≡ n = cut_count C (numbers L) ∙ sym counted in
-        (rw (take_rest entry 3, f) at gave) ∙ sym (rw l at (after_places entry u w P D Q (cut C (numbers L))))
+-- `matches_after_leaf`: r is what its last call gave
+pub after_digest : (C L P D Q entry : List ℕ) → usable entry ≡ true → (matching_type_of entry ≡ 0 → ⊥) → (from : ℕ) → from ≡ digest_start (get_or entry 1 0) (get_or entry 2 0) → (r : Bool) → r ≡ any_place (digest_on_path (take (length entry - 3) (drop 3 entry)) from D Q) 1 (length (numbers L) - 1) → r ≡ any (matches_on_path entry) (after_leaf (certificates_of C L P D Q))
+unfolding certificates_of
+after_digest C L P D Q entry u w from f r gave =
+    (rw (take_rest entry 3, f) at gave) ∙ sym (rw (cut_count C (numbers L)) at (after_places entry u w P D Q (cut C (numbers L))))
 
 pub after_whole : (C L P D Q entry : List ℕ) → matching_type_of entry ≡ 0 → (r : Bool) → r ≡ any (matches_on_path entry) (after_leaf (certificates_of C L P [] Q)) → r ≡ any (matches_on_path entry) (after_leaf (certificates_of C L P D Q))
 unfolding certificates_of
 after_whole C L P D Q entry z r gave = gave ∙ after_any entry z P D Q (cut C (numbers L))
 
 pub ruleset leaf_laws = (leaf_none, leaf_whole, leaf_digest, usable_3_bytes, usable_second, usable_third, rules)
-
-pub ruleset whole_laws = (after_none, after_start, seek_next, seek_hit, seek_none, end_after, end_within, not-true, not-false, rules)
 
 pub ruleset after_laws = (after_whole, after_digest, usable_3_bytes, usable_second, usable_third, rules)
 

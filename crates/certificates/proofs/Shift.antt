@@ -8,7 +8,7 @@ use lib.ListN.{take, drop}
 use lib.Seq.{drop-drop}
 use Rattle.numbers.specs.Pieces.{numbered}
 use Rattle.numbers.proofs.Numbers.{number_shift}
-use Rattle.numbers.proofs.Pieces.{numbered_shift}
+use Rattle.numbers.proofs.Cut.{numbered_shift}
 use Rattle.certificates.specs.Facts.{certificate_at}
 
 digest_shift : (D : List ℕ) (k from n : ℕ) → take n (drop ((k + 1) * 192 + from) D) ≡ take n (drop (k * 192 + from) (drop 192 D))

@@ -1,17 +1,15 @@
 -- Strongest digest only: what a set has of SHA-512, and which records are ignored beside it. Assumes nothing.
-use Prim.Native.Nat.{ℕ, ◌+◌, ◌-◌, ◌<◌, ◌≤◌}
+use Prim.Native.Nat.{ℕ, ◌<◌, ◌≤◌}
 use mathlib.Core.Path.{◌≡◌, refl, sym, ap, ◌∙◌}
 use mathlib.Core.Bool.{Bool, true, false, not, cond, ◌&&◌, ◌||◌, or-true, or-false, or_assoc}
 use mathlib.Core.List.{List, [], ◌∷◌}
 use native.Mathlib.Omega.{arith}
 use lib.Dec.{eqb}
-use lib.ListN.{length, get_or, take, drop}
+use lib.ListN.{get_or-eq_default, length, get_or}
 use borrow.Author.Rules.{rules}
 use borrow.Author.Tests.{not-true, not-false, eqb-true, eqb-false, ne_eqb}
 use Rattle.lists.specs.Bytes.{any}
 use Rattle.lists.proofs.Bools.{and_left}
-use Rattle.numbers.specs.Pieces.{cut, end_of}
-use Rattle.numbers.proofs.Pieces.{cut_next, cut_end, end_after, end_within}
 use Rattle.tlsa.specs.Record.{usage_of, selector_of, matching_type_of, usable, is_sha512, ignored, counts}
 use Rattle.tlsa.proofs.Ignored.{sha512_apart}
 use Rattle.certificates.specs.Facts.{Certificate}
@@ -70,7 +68,7 @@ module _ (r : List ℕ) (u : Bool) (ue : u ≡ usable r) where
 
 pub ruleset kind_laws = (sha512_other_length, sha512_unusable, sha512_third, sha512_type, not-true, not-false, rules)
 
--- `with_record`: u is what `is_sha512` gave
+-- `with`: u is what `is_sha512` gave
 module _ (r : List ℕ) (u : Bool) (ue : u ≡ (usable r && eqb (matching_type_of r) 2)) (t : u ≡ true) where
   with_usable : usable r ≡ true
   with_usable = and_left (usable r) (eqb (matching_type_of r) 2) (sym ue ∙ t)
@@ -118,11 +116,9 @@ module _ (found : Sha512Pairs) (r : List ℕ) (u : Bool) (ue : u ≡ (usable r &
     pub with_ee_key : (get_or r 0 0 ≡ 2 → ⊥) → (get_or r 1 0 ≡ 0 → ⊥) → record { ta_certificate = found.ta_certificate; ta_key = found.ta_key; ee_certificate = found.ee_certificate; ee_key = true } ≡ with_record found r
     with_ee_key p q = sym (by_pair 3 1 (usable_usage_3 r is_usable p) (usable_selector_1 r is_usable q) ∙ simp (or-true, or-false))
 
-pub ruleset with_reads = (with_first, with_second, not-true, not-false)
+pub ruleset with_laws = (with_other, with_ta_certificate, with_ta_key, with_ee_certificate, with_ee_key, with_first, with_second, not-true, not-false, rules)
 
-pub ruleset with_laws = (with_other, with_ta_certificate, with_ta_key, with_ee_certificate, with_ee_key, not-true, not-false, rules)
-
--- `sha512_of`: what is found before a place of the set, with what the records from there on have
+-- `of`: what is found before a place of the set, with what the records from there on have
 unfoldable pub joined : Sha512Pairs → List (List ℕ) → Sha512Pairs
 joined found set = record {
   ta_certificate = found.ta_certificate || any (is_sha512 2 0) set;
@@ -143,42 +139,41 @@ joined_end : (found : Sha512Pairs) → joined found [] ≡ found
 unfolding joined any
 joined_end found = simp or-false
 
-module _ (s ns : List ℕ) (found : Sha512Pairs) (at k n : ℕ) (inv : sha512_of (cut s ns) ≡ joined found (cut (drop at s) (drop k ns))) (counted : n ≡ length ns) where
-  pub all_found : n ≤ k → found ≡ sha512_of (cut s ns)
-  all_found h = let g : length ns ≤ k = omega arith in sym (inv ∙ (rw (cut_end s ns at k g) (joined_end found)))
+-- a turn at r, which leaves ys of xs, and the end
+module _ (set xs : List (List ℕ)) (found : Sha512Pairs) (inv : sha512_of set ≡ joined found xs) where
+  pub all_found : xs ≡ [] → found ≡ sha512_of set
+  all_found e = sym (inv ∙ (rw e (joined_end found)))
 
-  pub found_next : k < n → at ≤ length s → (e : ℕ) → e ≡ end_of (length s) at (get_or ns k 0) → (f : Sha512Pairs) → f ≡ with_record found (take (e - at) (drop at s)) → sha512_of (cut s ns) ≡ joined f (cut (drop e s) (drop (k + 1) ns))
-  found_next h w e ends f fe = inv ∙ (rw (cut_next s ns at k e ends w (omega arith), fe) (joined_next found (take (e - at) (drop at s)) (cut (drop e s) (drop (k + 1) ns))))
+  pub found_next : (r : List ℕ) (ys : List (List ℕ)) → xs ≡ r ∷ ys → (f : Sha512Pairs) → f ≡ with_record found r → sha512_of set ≡ joined f ys
+  found_next r ys e f fe = inv ∙ (rw (e, fe) (joined_next found r ys))
 
-pub ruleset sha512_laws = (joined_start, all_found, found_next, end_after, end_within, rules)
+pub ruleset sha512_laws = (joined_start, all_found, found_next, rules)
 
--- `is_ignored`
-module _ (r : List ℕ) (h : usable r ≡ true) where
-  pub ignored_first : 0 < length r
-  ignored_first = omega (arith, usable_3_bytes r h)
+-- `ignores`
+module _ (r : List ℕ) (found : Sha512Pairs) where
+  pub ignored_short : length r < 3 → false ≡ ignored_beside found r
+  unfolding ignored_beside
+  ignored_short h = let g : length r ≤ 2 = omega arith in rw (get_or-eq_default r 0 g)
 
-  module _ (found : Sha512Pairs) where
-    pub ignored_not : (get_or r 2 0 ≡ 1 → ⊥) → false ≡ ignored_beside found r
+  pub ignored_not : (get_or r 2 0 ≡ 1 → ⊥) → false ≡ ignored_beside found r
+  unfolding ignored_beside
+  ignored_not z = rw (ne_eqb (get_or r 2 0) 1 z)
+
+  module _ (z : get_or r 2 0 ≡ 1) where
+    pub ignored_ta_certificate : get_or r 0 0 ≡ 2 → get_or r 1 0 ≡ 0 → found.ta_certificate ≡ ignored_beside found r
     unfolding ignored_beside
-    ignored_not z = rw (ne_eqb (get_or r 2 0) 1 z)
+    ignored_ta_certificate p q = rw (z, p, q)
 
-    module _ (z : get_or r 2 0 ≡ 1) where
-      pub ignored_ta_certificate : get_or r 0 0 ≡ 2 → get_or r 1 0 ≡ 0 → found.ta_certificate ≡ ignored_beside found r
-      unfolding ignored_beside
-      ignored_ta_certificate p q = rw (z, p, q)
+    pub ignored_ta_key : get_or r 0 0 ≡ 2 → (get_or r 1 0 ≡ 0 → ⊥) → found.ta_key ≡ ignored_beside found r
+    unfolding ignored_beside
+    ignored_ta_key p q = rw (z, p, ne_eqb (get_or r 1 0) 0 q)
 
-      pub ignored_ta_key : get_or r 0 0 ≡ 2 → (get_or r 1 0 ≡ 0 → ⊥) → found.ta_key ≡ ignored_beside found r
-      unfolding ignored_beside
-      ignored_ta_key p q = rw (z, p, ne_eqb (get_or r 1 0) 0 q)
+    pub ignored_ee_certificate : (get_or r 0 0 ≡ 2 → ⊥) → get_or r 1 0 ≡ 0 → found.ee_certificate ≡ ignored_beside found r
+    unfolding ignored_beside
+    ignored_ee_certificate p q = rw (z, ne_eqb (get_or r 0 0) 2 p, q)
 
-      pub ignored_ee_certificate : (get_or r 0 0 ≡ 2 → ⊥) → get_or r 1 0 ≡ 0 → found.ee_certificate ≡ ignored_beside found r
-      unfolding ignored_beside
-      ignored_ee_certificate p q = rw (z, ne_eqb (get_or r 0 0) 2 p, q)
+    pub ignored_ee_key : (get_or r 0 0 ≡ 2 → ⊥) → (get_or r 1 0 ≡ 0 → ⊥) → found.ee_key ≡ ignored_beside found r
+    unfolding ignored_beside
+    ignored_ee_key p q = rw (z, ne_eqb (get_or r 0 0) 2 p, ne_eqb (get_or r 1 0) 0 q)
 
-      pub ignored_ee_key : (get_or r 0 0 ≡ 2 → ⊥) → (get_or r 1 0 ≡ 0 → ⊥) → found.ee_key ≡ ignored_beside found r
-      unfolding ignored_beside
-      ignored_ee_key p q = rw (z, ne_eqb (get_or r 0 0) 2 p, ne_eqb (get_or r 1 0) 0 q)
-
-pub ruleset ignored_reads = (ignored_first, usable_second, usable_third)
-
-pub ruleset ignored_laws = (ignored_not, ignored_ta_certificate, ignored_ta_key, ignored_ee_certificate, ignored_ee_key)
+pub ruleset ignored_laws = (ignored_short, ignored_not, ignored_ta_certificate, ignored_ta_key, ignored_ee_certificate, ignored_ee_key, rules)

@@ -15,7 +15,7 @@ use Rattle.lists.proofs.Bools.{and_left, and_right}
 use Rattle.lists.proofs.Laws.{part_length}
 use Rattle.numbers.specs.Numbers.{numbers, at_most, written}
 use Rattle.numbers.specs.Pieces.{cut, numbered, sums_to, up_to}
-use Rattle.numbers.proofs.Pieces.{cut_count}
+use Rattle.numbers.proofs.Cut.{cut_count}
 use Rattle.numbers.proofs.Written.{numbers_written, written_length, written_bytes, lengths_of, lengths_small, lengths_bytes, pieces_back, pieces_sum}
 use Rattle.certificates.specs.Facts.{Certificate, Presented, certificate_at, certificates_of, dns_ids_of, common_name_of, presented_of}
 use Rattle.certificates.specs.Limits.{certificate_fits, total_of, chain_keeps_limits, common_name_fits, names_keep_limits, keeps_limits, one_for_each, chain_fits, names_fit, facts_fit, yes_no}

@@ -5,7 +5,8 @@ use Rattle.lists.specs.Bytes.{any}
 use Rattle.lists.specs.Equal.{same_bytes, same_text}
 use Rattle.names.specs.Name.{some_matches}
 use Rattle.tlsa.specs.Record.{usage_of, selector_of, matching_type_of, data_of, counts}
-use Rattle.certificates.specs.Facts.{Certificate, key_info, Presented}
+use Rattle.certificates.specs.Facts.{Certificate, key_info, Presented, text_in}
+use Rattle.certificates.specs.declared.ReferenceNames.{ReferenceNames}
 use Rattle.certificates.specs.declared.Origin.{Origin}
 use Rattle.certificates.specs.declared.Origin.TheVariants.{SecureMx, InsecureMx, NoMx}
 
@@ -51,6 +52,10 @@ unfoldable pub references : Origin → (domain next_hop : List ℕ) (expanded_ne
 references SecureMx domain next_hop expanded_next_hop = domain ∷ next_hop ∷ further_reference next_hop expanded_next_hop
 references InsecureMx domain next_hop expanded_next_hop = domain ∷ []
 references NoMx domain next_hop expanded_next_hop = domain ∷ next_hop ∷ []
+
+-- The same of what code holds as one value.
+abbrev pub references_in : ReferenceNames → List (List ℕ)
+references_in n = references n.origin n.domain.now n.next_hop.now (text_in n.expanded_next_hop)
 
 -- The names that count: the DNS-IDs; the common name only where there is no DNS-ID.
 unfoldable pub leaf_names : List (List ℕ) → Option (List ℕ) → List (List ℕ)

@@ -1,8 +1,12 @@
 -- Document 01, "A host's facts, in the order learnt": certificate facts, and how the lists of a call give them.
 use Rattle.std.specs.Prelude.{ℕ, ◌+◌, ◌*◌, Bool, cond, List, eqb, get_or, take, drop}
+use Rattle.std.specs.Borrow.{Bor}
+use Rattle.std.specs.Prelude as S
 use Rattle.std.proofs.Math.Option.{Option, none, some}
 use Rattle.numbers.specs.Numbers.{numbers}
-use Rattle.numbers.specs.Pieces.{cut, numbered}
+use Rattle.numbers.specs.Pieces.{cut, numbered, pieces_in}
+use Rattle.certificates.specs.declared.Chain.{Chain}
+use Rattle.certificates.specs.declared.CertificateFacts.{CertificateFacts}
 
 -- A certificate: its bytes, the place of its public key info inside it, SHA-256 and SHA-512 of both, and whether the path from the leaf to it verifies.
 pub record Certificate : Type 0 where
@@ -67,4 +71,22 @@ presented_of certificates certificate_lengths key_places digests paths trusted_r
   dns_ids = dns_ids_of dns_ids dns_id_lengths;
   common_name = common_name_of common_name_given common_name;
   trusted_root = trusted_root;
+}
+
+-- The certificates that code holds as one value.
+abbrev pub certificates_in : Chain → List Certificate
+certificates_in c = certificates_of c.certificates.now c.lengths.now c.key_places.now c.digests.now c.paths.now
+
+-- A text that code holds, or none.
+abbrev pub text_in : S.Option (Bor (List ℕ)) → Option (List ℕ)
+text_in S.None = none
+text_in (S.Some s) = some s.now
+
+-- The facts that code holds as one value.
+unfoldable pub presented_by : CertificateFacts → Presented
+presented_by f = record {
+  certificates = certificates_in f.chain;
+  dns_ids = pieces_in f.dns_ids;
+  common_name = text_in f.common_name;
+  trusted_root = f.trusted_root;
 }

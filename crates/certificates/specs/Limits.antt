@@ -4,7 +4,9 @@ use Rattle.std.proofs.Math.Option.{Option, none, some}
 use Rattle.lists.specs.Bytes.{all}
 use Rattle.numbers.specs.Numbers.{numbers}
 use Rattle.numbers.specs.Pieces.{sums_to, up_to}
-use Rattle.certificates.specs.Facts.{Certificate, Presented, certificates_of, dns_ids_of, common_name_of}
+use Rattle.certificates.specs.declared.Chain.{Chain}
+use Rattle.certificates.specs.declared.CertificateFacts.{CertificateFacts}
+use Rattle.certificates.specs.Facts.{Certificate, Presented, certificates_of, dns_ids_of, common_name_of, text_in}
 
 -- A certificate has up to 16,384 bytes, and the place of its key info lies inside it.
 unfoldable pub certificate_fits : Certificate → Bool
@@ -52,6 +54,16 @@ names_fit dns_ids lengths common_name_given common_name =
 unfoldable pub facts_fit : (certificates certificate_lengths key_places digests paths dns_ids dns_id_lengths : List ℕ) → Bool → List ℕ → Bool
 facts_fit certificates certificate_lengths key_places digests paths dns_ids dns_id_lengths common_name_given common_name =
     chain_fits certificates certificate_lengths key_places digests paths && names_fit dns_ids dns_id_lengths common_name_given common_name
+
+-- The same of what code holds as one value.
+abbrev pub chain_keeps : Chain → Bool
+chain_keeps c = chain_fits c.certificates.now c.lengths.now c.key_places.now c.digests.now c.paths.now
+
+unfoldable pub names_keep : CertificateFacts → Bool
+names_keep f = sums_to f.dns_ids.lengths.now (length f.dns_ids.bytes.now) && names_keep_limits (dns_ids_of f.dns_ids.bytes.now f.dns_ids.lengths.now) (text_in f.common_name)
+
+unfoldable pub facts_keep : CertificateFacts → Bool
+facts_keep f = chain_keeps f.chain && names_keep f
 
 -- A yes/no number: 1 is yes, 2 is no.
 unfoldable pub yes_no : ℕ → Bool

@@ -3,7 +3,8 @@ use mathlib.Core.Path.{◌≡◌, refl}
 use mathlib.Core.Bool.{true, false}
 use mathlib.Core.Option.{none, some}
 use lib.IntN.{pos, neg_ℤ}
-use Rattle.clock.specs.declared.TimeLeft.{TimeLeft}
+use Rattle.std.specs.Prelude.{Ok, Err}
+use Rattle.clock.specs.declared.ClockError.TheVariants.{BadClock}
 use Rattle.clock.specs.Clock.{capped_age, is_reading, clock_refusal, time_left, is_live, time_left_answer, time_left_number}
 
 -- Fetched at 1,000 with max_age 604,800: time left 1 at 605,799, which is live.
@@ -37,11 +38,11 @@ unfolding capped_age
 lifetimes = (refl, refl, refl)
 
 -- The largest and the smallest time left.
-extremes : (time_left_answer 253402300799 31557601 0 ≡ TimeLeft.Seconds (pos 253433858399)) × (time_left_answer 0 0 253402300799 ≡ TimeLeft.Seconds (neg_ℤ (pos 253402300799)))
+extremes : (time_left_answer 253402300799 31557601 0 ≡ Ok (pos 253433858399)) × (time_left_answer 0 0 253402300799 ≡ Ok (neg_ℤ (pos 253402300799)))
 unfolding capped_age is_reading time_left time_left_answer
 extremes = (refl, refl)
 
 -- Either clock above the latest reading: bad clock, which is 62, and not live.
-bad_clocks : (time_left_answer 253402300800 604800 1000 ≡ TimeLeft.BadClock) × (time_left_answer 1000 604800 253402300800 ≡ TimeLeft.BadClock) × (clock_refusal 253402300800 1000 ≡ some 62) × (clock_refusal 1000 253402300800 ≡ some 62) × (clock_refusal 1000 1000 ≡ none) × (time_left_number TimeLeft.BadClock ≡ some 62) × (is_live 253402300800 604800 1000 ≡ false)
+bad_clocks : (time_left_answer 253402300800 604800 1000 ≡ Err BadClock) × (time_left_answer 1000 604800 253402300800 ≡ Err BadClock) × (clock_refusal 253402300800 1000 ≡ some 62) × (clock_refusal 1000 253402300800 ≡ some 62) × (clock_refusal 1000 1000 ≡ none) × (time_left_number (Err BadClock) ≡ some 62) × (is_live 253402300800 604800 1000 ≡ false)
 unfolding capped_age is_reading clock_refusal time_left is_live time_left_answer
 bad_clocks = (refl, refl, refl, refl, refl, refl, refl)

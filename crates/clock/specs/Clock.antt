@@ -1,11 +1,11 @@
 -- Clock readings, lifetimes and the time that a policy has left: document 01, section "Policy body", its cap on max_age and its last paragraph.
 -- Every number is of seconds. "House" marks our own choice where the RFCs are silent or leave one.
-use Rattle.std.specs.Prelude.{ℕ, Bool, cond, ◌&&◌, leb, ltb, ℤ, pos, ◌+ℤ◌, ◌-ℤ◌}
+use Rattle.std.specs.Prelude.{ℕ, Bool, cond, ◌&&◌, leb, ltb, ℤ, pos, ◌+ℤ◌, ◌-ℤ◌, Result, Ok, Err}
 use Rattle.std.proofs.Math.Option.{Option, none, some}
 use Rattle.std.specs.Int.Signed.{lt_z}
 use Rattle.clock.specs.declared.Lifetime.{Lifetime}
-use Rattle.clock.specs.declared.TimeLeft.{TimeLeft}
-use Rattle.clock.specs.declared.TimeLeft.TheVariants.{Seconds, BadClock}
+use Rattle.clock.specs.declared.ClockError.{ClockError}
+use Rattle.clock.specs.declared.ClockError.TheVariants.{BadClock}
 
 -- The longest lifetime, 365.25 days (house).
 abbrev pub longest : ℕ
@@ -45,10 +45,10 @@ unfoldable pub is_live : ℕ → ℕ → ℕ → Bool
 is_live fetched max_age present = is_reading fetched && is_reading present && lt_z (pos 0) (time_left fetched max_age present)
 
 -- The answer of `time_left`: the time left where both clocks are readings, else a bad clock.
-unfoldable pub time_left_answer : ℕ → ℕ → ℕ → TimeLeft
-time_left_answer fetched max_age present = cond (is_reading fetched && is_reading present) (Seconds (time_left fetched max_age present)) BadClock
+unfoldable pub time_left_answer : ℕ → ℕ → ℕ → Result ℤ ClockError
+time_left_answer fetched max_age present = cond (is_reading fetched && is_reading present) (Ok (time_left fetched max_age present)) (Err BadClock)
 
 -- Document 01's answer number for each case of that answer: a time left is a value and has none, a bad clock has 62.
-abbrev pub time_left_number : TimeLeft → Option ℕ
-time_left_number (Seconds left) = none
-time_left_number BadClock = some bad_clock
+abbrev pub time_left_number : Result ℤ ClockError → Option ℕ
+time_left_number (Ok left) = none
+time_left_number (Err BadClock) = some bad_clock

@@ -1,4 +1,4 @@
-pub mod Letter
 pub mod LetterMarks
 pub mod Name
 mod Worked
+pub mod Letter

@@ -1,38 +1,73 @@
 -- The names of fields: the returns of `name_end`, what its answer says to a caller, and that a text has one name at most. Assumes nothing.
 use Prim.Native.Nat.{ℕ, ◌+◌, ◌-◌, ◌<◌, ◌≤◌}
 use mathlib.Core.Path.{◌≡◌, refl, sym, ◌∙◌}
-use mathlib.Core.Bool.{Bool, true, false, cond, ◌&&◌, and-false}
+use mathlib.Core.Bool.{Bool, true, false, cond, not, ◌&&◌, and-false}
+use Rattle.std.specs.Prelude.{Option, Some, None}
 use mathlib.Core.List.{List, ◌∷◌, ◌++◌}
 use native.Mathlib.Omega.{arith}
 use lib.Dec.{eqb, ltb}
 use lib.ListN.{length, get_or, take, drop, length-append, length-drop, take-append-drop}
-use lib.Seq.{get_or-take, drop-drop, take-append_seam, drop-append_seam}
+use lib.Seq.{get_or-take, get_or-drop, drop-drop, take-add, take-append_seam, drop-append_seam}
 use borrow.Author.Rules.{rules}
-use borrow.Author.Tests.{not-true, not-false, lt-leb, le-leb, lt-ltb, le-ltb, ne_eqb, ltb-true}
+use borrow.Author.Tests.{not-true, not-false, eq-eqb, lt-leb, le-leb, lt-ltb, le-ltb, ne_eqb, ltb-true}
 use Rattle.lists.specs.Bytes.{within, all}
 use Rattle.lists.specs.Split.{index_of}
 use Rattle.lists.proofs.Laws.{drop_next, part_length}
 use Rattle.lists.proofs.Split.{index_of_here, index_after, index_there, find_next}
-use Rattle.lists.proofs.All.{all_lacks}
+use Rattle.lists.specs.Span.{span_of}
+use Rattle.lists.proofs.All.{all_more, all_append, all_lacks}
+use Rattle.lists.proofs.Span.{span_all, span_index, span_stops}
 use Rattle.lists.proofs.Bools.{and_right, never}
-use Rattle.fields.specs.declared.Field.{Field}
 use Rattle.fields.specs.Name.{letter_or_digit, name_byte, is_field_name, before, after, has_name, field_at}
 
 before_here : (p : ℕ → Bool) (b : ℕ) (s : List ℕ) (i : ℕ) → i < length s → get_or s i 0 ≡ b → all p (before b (drop i s)) ≡ true
 unfolding all
 before_here p b s i h e = rw (index_of_here s b i h e)
 
-before_next : (p : ℕ → Bool) (b : ℕ) (s : List ℕ) (i : ℕ) → i < length s → (get_or s i 0 ≡ b → ⊥) → all p (before b (drop i s)) ≡ (p (get_or s i 0) && all p (before b (drop (i + 1) s)))
-unfolding index_of all
-before_next p b s i h e = rw (drop_next s i h, ne_eqb (get_or s i 0) b e)
+-- b is a byte of a name, and not the one that ends it
+abbrev pub inner : ℕ → ℕ → Bool
+inner end b = not (eqb b end) && name_byte b
 
--- `name_end`, at its place i: a byte of the name goes by
-pub name_next : (s : List ℕ) (end at i : ℕ) → all name_byte (before end (drop at s)) ≡ all name_byte (before end (drop i s)) → i < length s → (get_or s i 0 ≡ end → ⊥) → (r : Bool) → r ≡ name_byte (get_or s i 0) → r ≡ true → all name_byte (before end (drop at s)) ≡ all name_byte (before end (drop (i + 1) s))
-name_next s end at i inv h e r g t = cc (before_next name_byte end s i h e)
+inner_name : (end b : ℕ) → inner end b ≡ true → name_byte b ≡ true
+inner_name end b h = and_right (not (eqb b end)) (name_byte b) h
+
+inner_end : (end : ℕ) → inner end end ≡ false
+inner_end end = rw (eq-eqb end end refl)
+
+inner_no : (end b : ℕ) → inner end b ≡ false → (b ≡ end → ⊥) → name_byte b ≡ false
+inner_no end b h n = rw (ne_eqb b end n) at h
+
+-- `name_end`: it went past the bytes of the name, up to the place i
+module _ (s : List ℕ) (end at i : ℕ) (gone : i ≡ at + span_of (inner end) (drop at s)) where
+  pub name_after : at ≤ i
+  name_after = omega (arith, gone)
+
+  pub name_place : at + index_of end (drop at s) ≡ i + index_of end (drop i s)
+  name_place =
+      let e : i ≡ span_of (inner end) (drop at s) + at = omega (arith, gone) in
+      let k : drop (span_of (inner end) (drop at s)) (drop at s) ≡ drop i s = rw (drop-drop (span_of (inner end) (drop at s)) at s, gone) refl in
+      omega (arith, gone, rw k at (span_index (inner end) end (inner_end end) (drop at s)))
+
+  passed_all : all name_byte (take (i - at) (drop at s)) ≡ true
+  passed_all =
+      let e : i - at ≡ span_of (inner end) (drop at s) = omega (arith, gone) in
+      rw e (all_more (inner end) name_byte (inner_name end) (take (span_of (inner end) (drop at s)) (drop at s)) (span_all (inner end) (drop at s)))
+
+  pub name_inner : all name_byte (before end (drop at s)) ≡ all name_byte (before end (drop i s))
+  name_inner =
+      let e : index_of end (drop at s) ≡ (i - at) + index_of end (drop i s) = omega (arith, name_place, name_after) in
+      let d : drop (i - at) (drop at s) ≡ drop i s = let q : at + (i - at) ≡ i = omega (arith, name_after) in rw (drop-drop (i - at) at s, q) refl in
+      rw (e, take-add (i - at) (index_of end (drop i s)) (drop at s), d, all_append name_byte (take (i - at) (drop at s)) (take (index_of end (drop i s)) (drop i s)), passed_all) refl
+
+  pub name_stopped : i < length s → inner end (get_or s i 0) ≡ false
+  name_stopped h =
+      let l : span_of (inner end) (drop at s) < length (drop at s) = omega (arith, gone, length-drop at s) in
+      let q = span_stops (inner end) (drop at s) l in
+      rw (get_or-drop at s (span_of (inner end) (drop at s)) 0, ← gone) at q
 
 -- no byte `end` stands between `at` and i, and the bytes from i on decide about the name
 module _ (s : List ℕ) (end at i : ℕ) (w : at ≤ i) (place : at + index_of end (drop at s) ≡ i + index_of end (drop i s)) where
-  pub name_none : length s ≤ i → Field.Malformed ≡ field_at end s at
+  pub name_none : length s ≤ i → None ≡ field_at end s at
   unfolding field_at has_name
   name_none h = rw (le-ltb (index_of end (drop at s)) (length (drop at s)) (omega (arith, length-drop at s)))
 
@@ -51,55 +86,35 @@ module _ (s : List ℕ) (end at i : ℕ) (w : at ≤ i) (place : at + index_of e
         let k : at < length s = omega arith in
         get_or-take (i - at) (drop at s) 0 0 z ∙ rw (drop_next s at k)
 
-    pub name_empty : i - at < 1 → Field.Malformed ≡ field_at end s at
+    pub name_empty : i - at < 1 → None ≡ field_at end s at
     unfolding field_at has_name is_field_name
     name_empty z = rw (hit_place, hit_inside, hit_length, lt-leb 1 (i - at) z)
 
-    pub name_long : 32 < i - at → Field.Malformed ≡ field_at end s at
+    pub name_long : 32 < i - at → None ≡ field_at end s at
     unfolding field_at has_name is_field_name
     name_long z =
         let o : 1 ≤ i - at = omega arith in
         rw (hit_place, hit_inside, hit_length, le-leb 1 (i - at) o, lt-leb (i - at) 32 z)
 
     module _ (inv : all name_byte (before end (drop at s)) ≡ all name_byte (before end (drop i s))) (low : 1 ≤ i - at) (high : i - at ≤ 32) (t : Bool) (g : t ≡ letter_or_digit (get_or s at 0)) where
-      pub name_named : t ≡ true → Field.Named i ≡ field_at end s at
+      pub name_named : t ≡ true → Some i ≡ field_at end s at
       unfolding field_at has_name is_field_name
       name_named y =
           let k : all name_byte (before end (drop at s)) ≡ true = cc (before_here name_byte end s i h e) in
           let p : at + (i - at) ≡ i = omega arith in
           cc (hit_place, hit_inside, hit_length, le-leb 1 (i - at) low, le-leb (i - at) 32 high, hit_first (omega arith))
 
-      pub name_first : t ≡ false → Field.Malformed ≡ field_at end s at
+      pub name_first : t ≡ false → None ≡ field_at end s at
       unfolding field_at has_name is_field_name
       name_first y = cc (hit_place, hit_inside, hit_length, le-leb 1 (i - at) low, le-leb (i - at) 32 high, hit_first (omega arith))
 
-  pub name_bad : all name_byte (before end (drop at s)) ≡ all name_byte (before end (drop i s)) → i < length s → (get_or s i 0 ≡ end → ⊥) → (r : Bool) → r ≡ name_byte (get_or s i 0) → r ≡ false → Field.Malformed ≡ field_at end s at
-  unfolding field_at has_name is_field_name
-  name_bad inv h e r g t =
-      let k : all name_byte (before end (drop at s)) ≡ false = cc (before_next name_byte end s i h e) in
+  pub name_bad : all name_byte (before end (drop at s)) ≡ all name_byte (before end (drop i s)) → i < length s → (get_or s i 0 ≡ end → ⊥) → inner end (get_or s i 0) ≡ false → None ≡ field_at end s at
+  unfolding field_at has_name is_field_name index_of all
+  name_bad inv h e t =
+      let b : name_byte (get_or s i 0) ≡ false = inner_no end (get_or s i 0) t e in
+      let n : all name_byte (before end (drop i s)) ≡ false = rw (drop_next s i h, ne_eqb (get_or s i 0) end e, b) refl in
+      let k : all name_byte (before end (drop at s)) ≡ false = inv ∙ n in
       simp (k, and-false)
-
-pub ruleset name_laws = (find_next, name_none, name_empty, name_long, name_next, name_bad, name_named, name_first, not-true, not-false, rules)
-
--- `is_name_byte`: its returns
-module _ (b : ℕ) (t : Bool) (g : t ≡ letter_or_digit b) where
-  pub byte_plain : t ≡ true → true ≡ name_byte b
-  unfolding name_byte
-  byte_plain y = cc
-
-  pub byte_underscore : t ≡ false → b ≡ 95 → true ≡ name_byte b
-  unfolding name_byte
-  byte_underscore y e = cc
-
-  pub byte_hyphen : t ≡ false → (b ≡ 95 → ⊥) → b ≡ 45 → true ≡ name_byte b
-  unfolding name_byte
-  byte_hyphen y n e = cc
-
-  pub byte_dot : t ≡ false → (b ≡ 95 → ⊥) → (b ≡ 45 → ⊥) → eqb b 46 ≡ name_byte b
-  unfolding name_byte
-  byte_dot y n m = cc (ne_eqb b 95 n, ne_eqb b 45 m)
-
-pub ruleset byte_laws = (byte_plain, byte_underscore, byte_hyphen, byte_dot, rules)
 
 -- what it says of a text that it begins with a name: the byte `end` stands in it, after the name
 module _ (end : ℕ) (s : List ℕ) where
@@ -125,17 +140,17 @@ module _ (end : ℕ) (s : List ℕ) where
       rw (← k) (sym (take-append-drop (index_of end s) s))
 
 -- what `name_end` says to its caller, f being its answer
-module _ (end : ℕ) (s : List ℕ) (at : ℕ) (f : Field) (gave : f ≡ field_at end s at) where
-  named_both : (e : ℕ) → f ≡ Field.Named e → (has_name end (drop at s) ≡ true) × (e ≡ at + index_of end (drop at s))
+module _ (end : ℕ) (s : List ℕ) (at : ℕ) (f : Option ℕ) (gave : f ≡ field_at end s at) where
+  named_both : (e : ℕ) → f ≡ Some e → (has_name end (drop at s) ≡ true) × (e ≡ at + index_of end (drop at s))
   unfolding field_at
   named_both e q = go (has_name end (drop at s)) (sym q ∙ gave)
     where
-      go : (t : Bool) → Field.Named e ≡ cond t (Field.Named (at + index_of end (drop at s))) Field.Malformed → (t ≡ true) × (e ≡ at + index_of end (drop at s))
+      go : (t : Bool) → Some e ≡ cond t (Some (at + index_of end (drop at s))) None → (t ≡ true) × (e ≡ at + index_of end (drop at s))
       go true k = (refl, cc)
       go false k = never cc
 
   -- a name was found, and `end` stands at e
-  module _ (e : ℕ) (q : f ≡ Field.Named e) where
+  module _ (e : ℕ) (q : f ≡ Some e) where
     pub named_has : has_name end (drop at s) ≡ true
     named_has = (named_both e q).0
 
@@ -158,11 +173,11 @@ module _ (end : ℕ) (s : List ℕ) (at : ℕ) (f : Field) (gave : f ≡ field_a
         rw (k, drop-drop (index_of end (drop at s) + 1) at s)
 
   -- there is no name
-  pub malformed_has : f ≡ Field.Malformed → has_name end (drop at s) ≡ false
+  pub malformed_has : f ≡ None → has_name end (drop at s) ≡ false
   unfolding field_at
   malformed_has q = go (has_name end (drop at s)) (sym q ∙ gave)
     where
-      go : (t : Bool) → Field.Malformed ≡ cond t (Field.Named (at + index_of end (drop at s))) Field.Malformed → t ≡ false
+      go : (t : Bool) → None ≡ cond t (Some (at + index_of end (drop at s))) None → t ≡ false
       go true k = never cc
       go false k = refl
 

@@ -1,10 +1,8 @@
 -- Document 01, "TXT record": the name of a field. One definition for TXT records, where `=` ends a name, and for policies, where `:` does.
 use Prim.Native.Char.{code}
-use Rattle.std.specs.Prelude.{ℕ, ◌+◌, Bool, cond, ◌&&◌, ◌||◌, List, eqb, ltb, length, get_or, take, drop}
+use Rattle.std.specs.Prelude.{ℕ, Option, None, Some, ◌+◌, Bool, cond, ◌&&◌, ◌||◌, List, eqb, ltb, length, get_or, take, drop}
 use Rattle.lists.specs.Bytes.{within, all}
 use Rattle.lists.specs.Split.{index_of}
-use Rattle.fields.specs.declared.Field.{Field}
-use Rattle.fields.specs.declared.Field.TheVariants.{Named, Malformed}
 
 -- a letter or a digit
 unfoldable pub letter_or_digit : ℕ → Bool
@@ -30,5 +28,5 @@ unfoldable pub has_name : ℕ → List ℕ → Bool
 has_name end s = ltb (index_of end s) (length s) && is_field_name (before end s)
 
 -- the place of the byte that ends the field's name that begins at `at`, where there is such a name
-unfoldable pub field_at : ℕ → List ℕ → ℕ → Field
-field_at end s at = cond (has_name end (drop at s)) (Named (at + index_of end (drop at s))) Malformed
+unfoldable pub field_at : ℕ → List ℕ → ℕ → Option ℕ
+field_at end s at = cond (has_name end (drop at s)) (Some (at + index_of end (drop at s))) None

@@ -15,12 +15,12 @@ use Rattle.lists.proofs.All.{all_take, all_drop, all_at}
 use Rattle.lists.proofs.Laws.{part_length}
 use Rattle.numbers.specs.Numbers.{numbers}
 use Rattle.numbers.specs.Pieces.{cut, sums_to}
-use Rattle.numbers.proofs.Pieces.{cut_count, cut_all, numbered_all}
+use Rattle.numbers.proofs.Cut.{cut_count, cut_all, numbered_all}
 use Rattle.names.specs.Name.{is_name}
 use Rattle.policies.specs.Policy.{policy_answer}
 use Rattle.policies.proofs.Sanity.{is_policy_refusal, refusal_range, policy_number_lem}
-use Rattle.tlsa.specs.declared.Lookup.{Lookup}
-use Rattle.tlsa.specs.declared.Lookup.TheVariants as L
+use Rattle.tlsa.specs.Answer.{Lookup}
+use Rattle.tlsa.specs.Answer as L
 use Rattle.tlsa.specs.Answer.{answer_of, answer_fits, set_fits, records_of}
 use Rattle.certificates.specs.Facts.{certificate_at, certificates_of, when, common_name_of, presented_of}
 use Rattle.certificates.specs.Limits.{chain_keeps_limits, keeps_limits, one_for_each, chain_fits, names_fit, facts_fit}

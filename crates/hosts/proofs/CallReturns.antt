@@ -1,4 +1,4 @@
--- The returns of `judge_host`. Assumes nothing.
+-- The returns of `answer`. Assumes nothing.
 use Prim.Native.Nat.{ℕ}
 use mathlib.Core.Path.{◌≡◌, refl, sym, ◌∙◌}
 use mathlib.Core.Bool.{Bool, true, false, cond, not, ◌&&◌, and-true}
@@ -16,14 +16,12 @@ use Rattle.policies.specs.declared.PolicyFor.{PolicyFor}
 use Rattle.policies.specs.Policy.{Policy, Reading, too_long, malformed, incomplete, policy, read_body, mode_number, answer_to, policy_answer, policy_for}
 use Rattle.policies.specs.Policy as P
 use Rattle.policies.proofs.Paper.{accepted, patterns_are}
-use Rattle.certificates.specs.Facts.{presented_of}
 use Rattle.hosts.specs.declared.HostAnswer.{HostAnswer}
-use Rattle.hosts.specs.declared.Refusal.{Refusal}
-use Rattle.hosts.specs.declared.Refusal.TheVariants as F
+use Rattle.std.specs.Prelude as S
 use Rattle.hosts.specs.Rules.{is_enforce, is_enforced, needs_mta_sts, patterns_of, is_listed}
-use Rattle.hosts.specs.Arguments.{Arguments, held, base_of, presented_in, facts_of}
+use Rattle.hosts.specs.Arguments.{Arguments, held, base_of, facts_of}
 use Rattle.hosts.specs.Call.{if_supplied, codes_fit, clocks_fit, next_hops_fit, host_names_fit, policy_fits, answers_fit, certificates_fit, checks, refused, walked, host_answer}
-use Rattle.hosts.specs.Stages.{first_part, last_part, first_refusal, last_refusal, no_policy, given_policy, policy_needs, saying, walk_answer}
+use Rattle.hosts.specs.Stages.{refusing, first_refusal, last_refusal, no_policy, given_policy, policy_needs, saying, walk_answer}
 use Rattle.hosts.proofs.StagesWalk.{walk_is}
 
 -- the policy, as it is read, needs what the policy of the facts needs
@@ -68,21 +66,21 @@ unlisted_is a = go (eqb a.numbers.policy_given 1) (read_body a.body) refl
     go true (policy p) e = rw (listed_is a.body a.host p e)
 
 -- the first four checks, then x
-module _ (c k m h : Bool) (x : HostAnswer) (f : Refusal) (fe : f ≡ cond c (cond k (cond m (cond h F.None (F.Number 61)) (F.Number 60)) (F.Number 62)) (F.Number 67)) where
-  refuses : (n : ℕ) → f ≡ F.Number n → saying n 0 ≡ cond c (cond k (cond m (cond h x (refused 61)) (refused 60)) (refused 62)) (refused 67)
-  refuses n z = go c k m h (sym z ∙ fe)
+module _ (c k m h : Bool) (x : HostAnswer) (f : S.Result (Unit {0}) HostAnswer) (fe : f ≡ cond c (cond k (cond m (cond h (S.Ok tt) (refusing 61)) (refusing 60)) (refusing 62)) (refusing 67)) where
+  refuses : (y : HostAnswer) → f ≡ S.Err y → y ≡ cond c (cond k (cond m (cond h x (refused 61)) (refused 60)) (refused 62)) (refused 67)
+  refuses y z = go c k m h (sym z ∙ fe)
     where
-      go : (c k m h : Bool) → F.Number n ≡ cond c (cond k (cond m (cond h F.None (F.Number 61)) (F.Number 60)) (F.Number 62)) (F.Number 67) → saying n 0 ≡ cond c (cond k (cond m (cond h x (refused 61)) (refused 60)) (refused 62)) (refused 67)
+      go : (c k m h : Bool) → S.Err y ≡ cond c (cond k (cond m (cond h (S.Ok tt) (refusing 61)) (refusing 60)) (refusing 62)) (refusing 67) → y ≡ cond c (cond k (cond m (cond h x (refused 61)) (refused 60)) (refused 62)) (refused 67)
       go true true true true e = never cc
       go true true true false e = cc
       go true true false h e = cc
       go true false m h e = cc
       go false k m h e = cc
 
-  accepts : f ≡ F.None → cond c (cond k (cond m (cond h x (refused 61)) (refused 60)) (refused 62)) (refused 67) ≡ x
-  accepts z = go c k m h (sym z ∙ fe)
+  accepts : (u : Unit {0}) → f ≡ S.Ok u → cond c (cond k (cond m (cond h x (refused 61)) (refused 60)) (refused 62)) (refused 67) ≡ x
+  accepts u z = go c k m h (sym z ∙ fe)
     where
-      go : (c k m h : Bool) → F.None ≡ cond c (cond k (cond m (cond h F.None (F.Number 61)) (F.Number 60)) (F.Number 62)) (F.Number 67) → cond c (cond k (cond m (cond h x (refused 61)) (refused 60)) (refused 62)) (refused 67) ≡ x
+      go : (c k m h : Bool) → S.Ok u ≡ cond c (cond k (cond m (cond h (S.Ok tt) (refusing 61)) (refusing 60)) (refusing 62)) (refusing 67) → cond c (cond k (cond m (cond h x (refused 61)) (refused 60)) (refused 62)) (refused 67) ≡ x
       go true true true true e = refl
       go true true true false e = never cc
       go true true false h e = never cc
@@ -106,27 +104,27 @@ module _ (t : Bool) (read : PolicyFor) (x : HostAnswer) (r : PolicyFor) (re : r 
       go false e = refl
 
 -- the last two checks, then x
-module _ (c k : Bool) (x : HostAnswer) (l : Refusal) (le : l ≡ cond c (cond k F.None (F.Number 65)) (F.Number 64)) where
-  last_refuses : (n : ℕ) → l ≡ F.Number n → saying n 0 ≡ cond c (cond k x (refused 65)) (refused 64)
-  last_refuses n z = go c k (sym z ∙ le)
+module _ (c k : Bool) (x : HostAnswer) (l : S.Result (Unit {0}) HostAnswer) (le : l ≡ cond c (cond k (S.Ok tt) (refusing 65)) (refusing 64)) where
+  last_refuses : (y : HostAnswer) → l ≡ S.Err y → y ≡ cond c (cond k x (refused 65)) (refused 64)
+  last_refuses y z = go c k (sym z ∙ le)
     where
-      go : (c k : Bool) → F.Number n ≡ cond c (cond k F.None (F.Number 65)) (F.Number 64) → saying n 0 ≡ cond c (cond k x (refused 65)) (refused 64)
+      go : (c k : Bool) → S.Err y ≡ cond c (cond k (S.Ok tt) (refusing 65)) (refusing 64) → y ≡ cond c (cond k x (refused 65)) (refused 64)
       go true true e = never cc
       go true false e = cc
       go false k e = cc
 
-  last_accepts : l ≡ F.None → cond c (cond k x (refused 65)) (refused 64) ≡ x
-  last_accepts z = go c k (sym z ∙ le)
+  last_accepts : (u : Unit {0}) → l ≡ S.Ok u → cond c (cond k x (refused 65)) (refused 64) ≡ x
+  last_accepts u z = go c k (sym z ∙ le)
     where
-      go : (c k : Bool) → F.None ≡ cond c (cond k F.None (F.Number 65)) (F.Number 64) → cond c (cond k x (refused 65)) (refused 64) ≡ x
+      go : (c k : Bool) → S.Ok u ≡ cond c (cond k (S.Ok tt) (refusing 65)) (refusing 64) → cond c (cond k x (refused 65)) (refused 64) ≡ x
       go true true e = refl
       go true false e = never cc
       go false k e = never cc
 
--- `judge_host`: f, r, l, e, u are what its calls gave, x is its answer
-module _ (a : Arguments) (f : Refusal) (fe : f ≡ first_refusal (first_part a.numbers a.next_hop a.expanded_next_hop a.host a.expanded a.paths)) (x : HostAnswer) where
-  first_here : f ≡ cond (codes_fit a) (cond (clocks_fit a) (cond (next_hops_fit a) (cond (host_names_fit a) F.None (F.Number 61)) (F.Number 60)) (F.Number 62)) (F.Number 67)
-  unfolding first_refusal codes_fit clocks_fit next_hops_fit host_names_fit
+-- `answer`: f, r, l, e, u are what its calls gave, x is what it returns
+module _ (a : Arguments) (f : S.Result (Unit {0}) HostAnswer) (fe : f ≡ first_refusal a) where
+  first_here : f ≡ cond (codes_fit a) (cond (clocks_fit a) (cond (next_hops_fit a) (cond (host_names_fit a) (S.Ok tt) (refusing 61)) (refusing 60)) (refusing 62)) (refusing 67)
+  unfolding first_refusal
   first_here = fe
 
   -- the answer from the last checks on, and from the policy's on
@@ -136,14 +134,14 @@ module _ (a : Arguments) (f : Refusal) (fe : f ≡ first_refusal (first_part a.n
   abbrev after_names : HostAnswer
   after_names = cond (policy_fits a) after_policy (refused (policy_answer a.body).number)
 
-  pub call_first : (n : ℕ) → f ≡ Refusal.Number n → x ≡ saying n 0 → x ≡ host_answer a
+  pub call_first : (y : HostAnswer) → f ≡ S.Err y → y ≡ host_answer a
   unfolding host_answer checks
-  call_first n z xe = xe ∙ refuses (codes_fit a) (clocks_fit a) (next_hops_fit a) (host_names_fit a) after_names f first_here n z
+  call_first y z = refuses (codes_fit a) (clocks_fit a) (next_hops_fit a) (host_names_fit a) after_names f first_here y z
 
-  module _ (fz : f ≡ Refusal.None) (r : PolicyFor) (re : r ≡ given_policy a.numbers.policy_given a.body a.host) where
+  module _ (v : Unit {0}) (fz : f ≡ S.Ok v) (r : PolicyFor) (re : r ≡ given_policy a.numbers.policy_given a.body a.host) (x : HostAnswer) where
     named : x ≡ after_names → x ≡ host_answer a
     unfolding host_answer checks
-    named h = h ∙ sym (accepts (codes_fit a) (clocks_fit a) (next_hops_fit a) (host_names_fit a) after_names f first_here fz)
+    named h = h ∙ sym (accepts (codes_fit a) (clocks_fit a) (next_hops_fit a) (host_names_fit a) after_names f first_here v fz)
 
     policy_here : r ≡ cond (eqb a.numbers.policy_given 1) (policy_for a.body a.host) no_policy
     unfolding given_policy
@@ -153,27 +151,26 @@ module _ (a : Arguments) (f : Refusal) (fe : f ≡ first_refusal (first_part a.n
     unfolding policy_fits policy_for
     call_policy z xe = named (xe ∙ policy_refuses (eqb a.numbers.policy_given 1) (policy_for a.body a.host) after_policy r policy_here z)
 
-    module _ (rz : r.answer.number ≡ 7) (l : Refusal) (le : l ≡ last_refusal (last_part a.numbers a.lengths1 a.records1 a.lengths2 a.records2 a.certificates a.certificate_lengths a.key_places a.digests a.paths a.dns_ids a.dns_id_lengths a.common_name)) where
-      last_here : l ≡ cond (answers_fit a) (cond (certificates_fit a) F.None (F.Number 65)) (F.Number 64)
-      unfolding last_refusal answers_fit certificates_fit
+    module _ (rz : r.answer.number ≡ 7) (l : S.Result (Unit {0}) HostAnswer) (le : l ≡ last_refusal a) where
+      last_here : l ≡ cond (answers_fit a) (cond (certificates_fit a) (S.Ok tt) (refusing 65)) (refusing 64)
+      unfolding last_refusal
       last_here = le
 
       read : x ≡ after_policy → x ≡ host_answer a
       unfolding policy_fits policy_for
       read h = named (h ∙ sym (policy_accepts (eqb a.numbers.policy_given 1) (policy_for a.body a.host) after_policy r policy_here rz))
 
-      pub call_last : (n : ℕ) → l ≡ Refusal.Number n → x ≡ saying n 0 → x ≡ host_answer a
-      call_last n z xe = read (xe ∙ last_refuses (answers_fit a) (certificates_fit a) (walked (facts_of a)) l last_here n z)
+      pub call_last : l ≡ S.Err x → x ≡ host_answer a
+      call_last z = read (last_refuses (answers_fit a) (certificates_fit a) (walked (facts_of a)) l last_here x z)
 
-      module _ (lz : l ≡ Refusal.None) (e : Bool) (ee : e ≡ policy_needs r.answer a.numbers.fetched a.numbers.clock) (u : Bool) (ue : u ≡ (e && not r.listed)) where
+      module _ (w : Unit {0}) (lz : l ≡ S.Ok w) (e : Bool) (ee : e ≡ policy_needs r.answer a.numbers.fetched a.numbers.clock) (u : Bool) (ue : u ≡ (e && not r.listed)) where
         needs_here : e ≡ needs_mta_sts (base_of a)
         needs_here = ee ∙ rw re (needs_is a)
 
         unlisted_here : u ≡ (needs_mta_sts (base_of a) && not (is_listed (base_of a)))
         unlisted_here = ue ∙ rw (needs_here, re) (unlisted_is a)
 
-        pub call_walk : x ≡ walk_answer a.numbers e u a.next_hop a.expanded_next_hop a.host a.expanded a.lengths1 a.records1 a.lengths2 a.records2 (presented_of a.certificates a.certificate_lengths a.key_places a.digests a.paths (eqb a.numbers.trusted_root 1) a.dns_ids a.dns_id_lengths (eqb a.numbers.common_name_given 1) a.common_name) → x ≡ host_answer a
-        unfolding presented_in
-        call_walk xe = read (xe ∙ rw (needs_here, unlisted_here) (sym (walk_is a)) ∙ sym (last_accepts (answers_fit a) (certificates_fit a) (walked (facts_of a)) l last_here lz))
+        pub call_walk : x ≡ walk_answer a e u → x ≡ host_answer a
+        call_walk xe = read (xe ∙ rw (needs_here, unlisted_here) (sym (walk_is a)) ∙ sym (last_accepts (answers_fit a) (certificates_fit a) (walked (facts_of a)) l last_here w lz))
 
 pub ruleset call_laws = (call_first, call_policy, call_last, call_walk, rules)

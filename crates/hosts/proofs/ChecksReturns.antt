@@ -1,8 +1,8 @@
 -- The returns of the argument checks. Assumes nothing.
 use Prim.Native.Nat.{ℕ, ◌<◌, ◌≤◌}
-use mathlib.Core.Path.{◌≡◌, ◌∙◌}
+use mathlib.Core.Path.{◌≡◌}
 use mathlib.Core.Bool.{Bool, true, false, ◌&&◌, and_assoc}
-use mathlib.Core.List.{List, []}
+use mathlib.Core.List.{List}
 use lib.Dec.{eqb, leb}
 use borrow.Author.Rules.{rules}
 use borrow.Author.Tests.{not-true, not-false, lt-leb, le-leb, ne_eqb}
@@ -12,27 +12,32 @@ use Rattle.numbers.specs.Numbers.{numbers}
 use Rattle.names.specs.Name.{is_name}
 use Rattle.clock.specs.Clock.{is_reading}
 use Rattle.tlsa.specs.declared.Address.{Address}
-use Rattle.tlsa.specs.declared.Lookup.{Lookup}
 use Rattle.tlsa.specs.Answer.{answer_fits}
 use Rattle.certificates.specs.declared.Origin.{Origin}
-use Rattle.certificates.specs.Limits.{yes_no, facts_fit}
-use Rattle.hosts.specs.declared.Refusal.{Refusal}
+use Rattle.certificates.specs.Limits.{yes_no}
+use Rattle.hosts.specs.declared.HostAnswer.{HostAnswer}
 use Rattle.hosts.specs.declared.Numbers.{Numbers}
+use Rattle.std.specs.Prelude as S
+use Rattle.tlsa.specs.declared.TlsaAnswer.{TlsaAnswer}
+use Rattle.tlsa.specs.Answer.{answer_keeps}
+use Rattle.certificates.specs.declared.CertificateFacts.{CertificateFacts}
+use Rattle.certificates.specs.Limits.{facts_keep}
 use Rattle.hosts.specs.Arguments.{Arguments, origin_of, address_of, is_alias, lookup_of}
 use Rattle.hosts.specs.Call.{if_supplied, version_fits, host_fits, codes_fit, clocks_fit, next_hops_fit, host_names_fit, answers_fit, certificates_fit}
-use Rattle.hosts.specs.Stages.{base_codes_fit, later_codes_fit, certificate_codes_fit, first_part, last_part, first_refusal, last_refusal}
+use Rattle.hosts.specs.Stages.{base_codes_fit, later_codes_fit, certificate_codes_fit, first_refusal, last_refusal, saying}
 
--- what is supplied is tested, what is not passes: `result_fits`, `version_fits`, `answer_fits`, `certificates_fit`
+-- what is supplied is tested, what is not passes: `result_fits`
 pub supplied_is : (s t r : Bool) → s ≡ true → r ≡ t → r ≡ if_supplied s t
 supplied_is s t r h e = cc
 
 pub supplied_not : (s t : Bool) → s ≡ false → true ≡ if_supplied s t
 supplied_not s t h = cc
 
-pub answer_is : (s : Bool) (result : ℕ) (L R : List ℕ) (l : Lookup) (r : Bool) → s ≡ true → l ≡ lookup_of result → r ≡ answer_fits l L R → r ≡ if_supplied s (answer_fits (lookup_of result) L R)
-answer_is s result L R l r h e g = cc
-
 pub ruleset supplied_laws = (supplied_is, supplied_not, not-true, not-false, rules)
+
+-- `answer_fits`: a is the answer
+pub answer_is : (s : Bool) (code : ℕ) (L R : List ℕ) (a : TlsaAnswer) (r : Bool) → s ≡ true → answer_keeps a ≡ answer_fits (lookup_of code) L R → r ≡ answer_keeps a → r ≡ if_supplied s (answer_fits (lookup_of code) L R)
+answer_is s code L R a r h e g = cc
 
 pub ruleset answer_laws = (answer_is, supplied_not, not-true, not-false, rules)
 
@@ -117,46 +122,53 @@ module _ (n : Numbers) (Q : List ℕ) where
 
 pub ruleset certificate_laws = (certificate_none, certificate_paths, certificate_root, certificate_name, not-true, not-false, rules)
 
--- `codes_fit`, `clocks_fit`: tests one after another
-pub and_first : (a b t : Bool) → t ≡ a → t ≡ false → false ≡ (a && b)
-and_first a b t e h = cc
+-- `codes_fit`: the codes in three groups; b, l and c are what its calls gave
+pub codes_are : (a : Arguments) → (base_codes_fit a.numbers && later_codes_fit a.numbers && certificate_codes_fit a.numbers a.paths) ≡ codes_fit a
+unfolding codes_fit base_codes_fit later_codes_fit certificate_codes_fit
+codes_are a = simp and_assoc
 
-pub and_last : (a b t r : Bool) → t ≡ a → t ≡ true → r ≡ b → r ≡ (a && b)
-and_last a b t r e h g = cc
+module _ (a : Arguments) (b : Bool) (be : b ≡ base_codes_fit a.numbers) where
+  pub codes_base : b ≡ false → false ≡ codes_fit a
+  codes_base h = cc (codes_are a)
 
-pub three_second : (a b d s t : Bool) → s ≡ a → s ≡ true → t ≡ b → t ≡ false → false ≡ (a && b && d)
-three_second a b d s t e h f g = cc
+  module _ (bt : b ≡ true) (l : Bool) (le : l ≡ later_codes_fit a.numbers) where
+    pub codes_later : l ≡ false → false ≡ codes_fit a
+    codes_later h = cc (codes_are a)
 
-pub three_first : (a b d s : Bool) → s ≡ a → s ≡ false → false ≡ (a && b && d)
-three_first a b d s e h = cc
+    pub codes_last : l ≡ true → (r : Bool) → r ≡ certificate_codes_fit a.numbers a.paths → r ≡ codes_fit a
+    codes_last h r e = cc (codes_are a)
 
-pub three_last : (a b d s t r : Bool) → s ≡ a → s ≡ true → t ≡ b → t ≡ true → r ≡ d → r ≡ (a && b && d)
-three_last a b d s t r e h f g k = cc
+pub ruleset codes_laws = (codes_base, codes_later, codes_last, not-true, not-false, rules)
 
-pub ruleset codes_laws = (three_first, three_second, three_last, not-true, not-false, rules)
-
-module _ (present given fetched : ℕ) (t : Bool) (te : t ≡ is_reading present) where
-  pub clocks_present : t ≡ false → false ≡ (is_reading present && if_supplied (eqb given 1) (is_reading fetched))
+-- `clocks_fit`: t is what its first call gave
+module _ (a : Arguments) (t : Bool) (te : t ≡ is_reading a.numbers.clock) where
+  pub clocks_present : t ≡ false → false ≡ clocks_fit a
+  unfolding clocks_fit
   clocks_present h = cc
 
-  pub clocks_alone : t ≡ true → (given ≡ 1 → ⊥) → true ≡ (is_reading present && if_supplied (eqb given 1) (is_reading fetched))
-  clocks_alone h k = cc (ne_eqb given 1 k)
+  pub clocks_alone : t ≡ true → (a.numbers.policy_given ≡ 1 → ⊥) → true ≡ clocks_fit a
+  unfolding clocks_fit
+  clocks_alone h k = cc (ne_eqb a.numbers.policy_given 1 k)
 
-  pub clocks_fetched : t ≡ true → given ≡ 1 → (r : Bool) → r ≡ is_reading fetched → r ≡ (is_reading present && if_supplied (eqb given 1) (is_reading fetched))
+  pub clocks_fetched : t ≡ true → a.numbers.policy_given ≡ 1 → (r : Bool) → r ≡ is_reading a.numbers.fetched → r ≡ clocks_fit a
+  unfolding clocks_fit
   clocks_fetched h k r e = cc
 
 pub ruleset clocks_laws = (clocks_present, clocks_alone, clocks_fetched, not-true, not-false, rules)
 
 -- `next_hops_fit`: t is what its first call gave
-module _ (hop further : List ℕ) (given t : Bool) (te : t ≡ is_name hop) where
-  pub hops_first : t ≡ false → false ≡ (is_name hop && if_supplied given (is_name further))
+module _ (a : Arguments) (t : Bool) (te : t ≡ is_name a.next_hop) where
+  pub hops_first : t ≡ false → false ≡ next_hops_fit a
+  unfolding next_hops_fit
   hops_first h = cc
 
   module _ (tt : t ≡ true) where
-    pub hops_alone : given ≡ false → true ≡ (is_name hop && if_supplied given (is_name further))
-    hops_alone h = cc
+    pub hops_alone : (a.numbers.expanded_next_hop_given ≡ 1 → ⊥) → true ≡ next_hops_fit a
+    unfolding next_hops_fit
+    hops_alone h = cc (ne_eqb a.numbers.expanded_next_hop_given 1 h)
 
-    pub hops_both : given ≡ true → (r : Bool) → r ≡ is_name further → r ≡ (is_name hop && if_supplied given (is_name further))
+    pub hops_both : a.numbers.expanded_next_hop_given ≡ 1 → (r : Bool) → r ≡ is_name a.expanded_next_hop → r ≡ next_hops_fit a
+    unfolding next_hops_fit
     hops_both h r e = cc
 
 pub ruleset hops_laws = (hops_first, hops_alone, hops_both, not-true, not-false, rules)
@@ -175,92 +187,90 @@ module _ (origin : Origin) (host hop : List ℕ) where
 pub ruleset host_laws = (host_secure, host_insecure, host_same, rules)
 
 -- `host_names_fit`: t, o, f, d, s are what its calls gave
-module _ (n : Numbers) (hop host expanded : List ℕ) (t : Bool) (te : t ≡ is_name host) where
-  pub names_host : t ≡ false → false ≡ host_names_fit (first_part n hop [] host expanded [])
+module _ (a : Arguments) (t : Bool) (te : t ≡ is_name a.host) where
+  pub names_host : t ≡ false → false ≡ host_names_fit a
   unfolding host_names_fit
   names_host h = cc
 
-  module _ (tt : t ≡ true) (o : Origin) (oe : o ≡ origin_of n.origin) (f : Bool) (fe : f ≡ host_fits o host hop) where
-    pub names_same : f ≡ false → false ≡ host_names_fit (first_part n hop [] host expanded [])
+  module _ (tt : t ≡ true) (o : Origin) (oe : o ≡ origin_of a.numbers.origin) (f : Bool) (fe : f ≡ host_fits o a.host a.next_hop) where
+    pub names_same : f ≡ false → false ≡ host_names_fit a
     unfolding host_names_fit
     names_same h = cc
 
-    module _ (ft : f ≡ true) (d : Address) (de : d ≡ address_of n.address) (s : Bool) (se : s ≡ is_alias d) where
-      pub names_plain : s ≡ false → true ≡ host_names_fit (first_part n hop [] host expanded [])
+    module _ (ft : f ≡ true) (d : Address) (de : d ≡ address_of a.numbers.address) (s : Bool) (se : s ≡ is_alias d) where
+      pub names_plain : s ≡ false → true ≡ host_names_fit a
       unfolding host_names_fit
       names_plain h = cc
 
-      pub names_alias : s ≡ true → (r : Bool) → r ≡ is_name expanded → r ≡ host_names_fit (first_part n hop [] host expanded [])
+      pub names_alias : s ≡ true → (r : Bool) → r ≡ is_name a.expanded → r ≡ host_names_fit a
       unfolding host_names_fit
       names_alias h r e = cc
 
 pub ruleset names_laws = (names_host, names_same, names_plain, names_alias, not-true, not-false, rules)
 
--- the codes in three groups
-pub codes_are : (a : Arguments) → (base_codes_fit a.numbers && later_codes_fit a.numbers && certificate_codes_fit a.numbers a.paths) ≡ codes_fit a
-unfolding codes_fit base_codes_fit later_codes_fit certificate_codes_fit
-codes_are a = simp and_assoc
-
--- `first_refusal`: c, k, m, h are what its calls gave
-module _ (n : Numbers) (hop further host expanded Q : List ℕ) (c : Bool) (ce : c ≡ (base_codes_fit n && later_codes_fit n && certificate_codes_fit n Q)) where
-  codes_here : c ≡ codes_fit (first_part n hop further host expanded Q)
-  codes_here = ce ∙ codes_are (first_part n hop further host expanded Q)
-
-  pub first_67 : c ≡ false → Refusal.Number 67 ≡ first_refusal (first_part n hop further host expanded Q)
+-- `check_first`: c, k, m, h are what its calls gave, x is the answer of a refusal
+module _ (a : Arguments) (c : Bool) (ce : c ≡ codes_fit a) where
+  pub first_67 : c ≡ false → (x : HostAnswer) → x ≡ saying 67 0 → S.Err x ≡ first_refusal a
   unfolding first_refusal
-  first_67 t = cc (codes_here)
+  first_67 t x e = rw (← ce, t, e)
 
-  module _ (ct : c ≡ true) (k : Bool) (ke : k ≡ (is_reading n.clock && if_supplied (eqb n.policy_given 1) (is_reading n.fetched))) where
-    clocks_here : k ≡ clocks_fit (first_part n hop further host expanded Q)
-    unfolding clocks_fit
-    clocks_here = ke
-
-    pub first_62 : k ≡ false → Refusal.Number 62 ≡ first_refusal (first_part n hop further host expanded Q)
+  module _ (ct : c ≡ true) (k : Bool) (ke : k ≡ clocks_fit a) where
+    pub first_62 : k ≡ false → (x : HostAnswer) → x ≡ saying 62 0 → S.Err x ≡ first_refusal a
     unfolding first_refusal
-    first_62 t = cc (codes_here, clocks_here)
+    first_62 t x e = rw (← ce, ct, ← ke, t, e)
 
-    module _ (kt : k ≡ true) (m : Bool) (me : m ≡ (is_name hop && if_supplied (eqb n.expanded_next_hop_given 1) (is_name further))) where
-      hops_here : m ≡ next_hops_fit (first_part n hop further host expanded Q)
-      unfolding next_hops_fit
-      hops_here = me
-
-      pub first_60 : m ≡ false → Refusal.Number 60 ≡ first_refusal (first_part n hop further host expanded Q)
+    module _ (kt : k ≡ true) (m : Bool) (me : m ≡ next_hops_fit a) where
+      pub first_60 : m ≡ false → (x : HostAnswer) → x ≡ saying 60 0 → S.Err x ≡ first_refusal a
       unfolding first_refusal
-      first_60 t = cc (codes_here, clocks_here, hops_here)
+      first_60 t x e = rw (← ce, ct, ← ke, kt, ← me, t, e)
 
-      module _ (mt : m ≡ true) (h : Bool) (he : h ≡ host_names_fit (first_part n hop [] host expanded [])) where
-        names_here : h ≡ host_names_fit (first_part n hop further host expanded Q)
-        unfolding host_names_fit
-        names_here = he
-
-        pub first_61 : h ≡ false → Refusal.Number 61 ≡ first_refusal (first_part n hop further host expanded Q)
+      module _ (mt : m ≡ true) (h : Bool) (he : h ≡ host_names_fit a) where
+        pub first_61 : h ≡ false → (x : HostAnswer) → x ≡ saying 61 0 → S.Err x ≡ first_refusal a
         unfolding first_refusal
-        first_61 t = cc (codes_here, clocks_here, hops_here, names_here)
+        first_61 t x e = rw (← ce, ct, ← ke, kt, ← me, mt, ← he, t, e)
 
-        pub first_none : h ≡ true → Refusal.None ≡ first_refusal (first_part n hop further host expanded Q)
+        pub first_none : h ≡ true → S.Ok tt ≡ first_refusal a
         unfolding first_refusal
-        first_none t = cc (codes_here, clocks_here, hops_here, names_here)
+        first_none t = rw (← ce, ct, ← ke, kt, ← me, mt, ← he, t)
 
 pub ruleset first_laws = (first_67, first_62, first_60, first_61, first_none, not-true, not-false, rules)
 
--- `last_refusal`: f, s, c are what its calls gave
-module _ (n : Numbers) (L1 R1 L2 R2 C CL K D Q I IL N : List ℕ) (f : Bool) (fe : f ≡ if_supplied (leb 1 n.tlsa_answers) (answer_fits (lookup_of n.tlsa1_result) L1 R1)) where
-  pub last_first : f ≡ false → Refusal.Number 64 ≡ last_refusal (last_part n L1 R1 L2 R2 C CL K D Q I IL N)
-  unfolding last_refusal answers_fit
+-- `answers_fit`: f and s are what its calls gave
+module _ (a : Arguments) (f : Bool) (fe : f ≡ if_supplied (leb 1 a.numbers.tlsa_answers) (answer_fits (lookup_of a.numbers.tlsa1_result) a.lengths1 a.records1)) where
+  pub last_first : f ≡ false → false ≡ answers_fit a
+  unfolding answers_fit
   last_first t = cc
 
-  module _ (ft : f ≡ true) (s : Bool) (se : s ≡ if_supplied (leb 2 n.tlsa_answers) (answer_fits (lookup_of n.tlsa2_result) L2 R2)) where
-    pub last_second : s ≡ false → Refusal.Number 64 ≡ last_refusal (last_part n L1 R1 L2 R2 C CL K D Q I IL N)
-    unfolding last_refusal answers_fit
-    last_second t = cc
+  pub last_second : f ≡ true → (s : Bool) → s ≡ if_supplied (leb 2 a.numbers.tlsa_answers) (answer_fits (lookup_of a.numbers.tlsa2_result) a.lengths2 a.records2) → s ≡ answers_fit a
+  unfolding answers_fit
+  last_second t s e = cc
 
-    module _ (st : s ≡ true) (c : Bool) (ce : c ≡ if_supplied (eqb n.certificates_given 1) (facts_fit C CL K D Q I IL (eqb n.common_name_given 1) N)) where
-      pub last_65 : c ≡ false → Refusal.Number 65 ≡ last_refusal (last_part n L1 R1 L2 R2 C CL K D Q I IL N)
-      unfolding last_refusal answers_fit certificates_fit
-      last_65 t = cc
+pub ruleset last_laws = (last_first, last_second, not-true, not-false, rules)
 
-      pub last_none : c ≡ true → Refusal.None ≡ last_refusal (last_part n L1 R1 L2 R2 C CL K D Q I IL N)
-      unfolding last_refusal answers_fit certificates_fit
-      last_none t = cc
+-- `certificates_fit`: p are the facts
+module _ (a : Arguments) where
+  pub facts_none : (a.numbers.certificates_given ≡ 1 → ⊥) → true ≡ certificates_fit a
+  unfolding certificates_fit
+  facts_none h = cc (ne_eqb a.numbers.certificates_given 1 h)
 
-pub ruleset last_laws = (last_first, last_second, last_65, last_none, not-true, not-false, rules)
+  pub facts_given : a.numbers.certificates_given ≡ 1 → (p : CertificateFacts) → if_supplied (eqb a.numbers.certificates_given 1) (facts_keep p) ≡ certificates_fit a → (r : Bool) → r ≡ facts_keep p → r ≡ certificates_fit a
+  facts_given h p e r g = cc
+
+pub ruleset facts_laws = (facts_none, facts_given, rules)
+
+-- `check_last`: f and c are what its calls gave, x is the answer of a refusal
+module _ (a : Arguments) (f : Bool) (fe : f ≡ answers_fit a) where
+  pub last_64 : f ≡ false → (x : HostAnswer) → x ≡ saying 64 0 → S.Err x ≡ last_refusal a
+  unfolding last_refusal
+  last_64 t x e = rw (← fe, t, e)
+
+  module _ (ft : f ≡ true) (c : Bool) (ce : c ≡ certificates_fit a) where
+    pub last_65 : c ≡ false → (x : HostAnswer) → x ≡ saying 65 0 → S.Err x ≡ last_refusal a
+    unfolding last_refusal
+    last_65 t x e = rw (← fe, ft, ← ce, t, e)
+
+    pub last_none : c ≡ true → S.Ok tt ≡ last_refusal a
+    unfolding last_refusal
+    last_none t = rw (← fe, ft, ← ce, t)
+
+pub ruleset refusal_laws = (last_64, last_65, last_none, not-true, not-false, rules)

@@ -12,8 +12,8 @@ use Rattle.lists.proofs.Any.{any_swap}
 use Rattle.lists.proofs.Bools.{and_right, by_cond}
 use Rattle.numbers.specs.Pieces.{sums_to}
 use Rattle.numbers.proofs.Written.{lengths_of}
-use Rattle.tlsa.specs.declared.Lookup.{Lookup}
-use Rattle.tlsa.specs.declared.Lookup.TheVariants as L
+use Rattle.tlsa.specs.Answer.{Lookup}
+use Rattle.tlsa.specs.Answer as L
 use Rattle.tlsa.specs.declared.Needs.{Needs}
 use Rattle.tlsa.specs.declared.Needs.TheVariants as N
 use Rattle.tlsa.specs.declared.Read.{Read}

@@ -7,8 +7,8 @@ use mathlib.Core.Option.{Option, none, some}
 use lib.Dec.{eqb, leb}
 use Rattle.lists.specs.Bytes.{any}
 use Rattle.lists.proofs.Bools.{apart, never}
-use Rattle.tlsa.specs.declared.Lookup.{Lookup}
-use Rattle.tlsa.specs.declared.Lookup.TheVariants as L
+use Rattle.tlsa.specs.Answer.{Lookup}
+use Rattle.tlsa.specs.Answer as L
 use Rattle.tlsa.specs.declared.Needs.{Needs}
 use Rattle.tlsa.specs.declared.Needs.TheVariants as N
 use Rattle.tlsa.specs.declared.Read.{Read}
@@ -20,20 +20,19 @@ use Rattle.tlsa.specs.declared.Address.{Address}
 use Rattle.tlsa.specs.declared.Address.TheVariants as A
 use Rattle.tlsa.specs.Address.{expanded_name, host_name, meaning_of}
 use Rattle.tlsa.specs.Answer.{Answer, secure_records, answer_of, records_of, read_of, taken_of, needs_of}
+use Rattle.certificates.specs.declared.Origin.{Origin}
 use Rattle.certificates.specs.Facts.{Presented, when}
 use Rattle.certificates.specs.Checks.{references, dane_passes, shows_host}
 use Rattle.hosts.specs.declared.HostAnswer.{HostAnswer}
 use Rattle.hosts.specs.declared.Numbers.{Numbers}
 use Rattle.hosts.specs.declared.Found.{Found}
-use Rattle.hosts.specs.declared.Stage.{Stage}
-use Rattle.hosts.specs.declared.Stage.TheVariants as S
-use Rattle.hosts.specs.declared.Connection.TheVariants as C
+use Rattle.std.specs.Prelude as S
 use Rattle.hosts.specs.Facts.{Base, Handshake, established, failed, Place, first, second, tlsa, certificates, Facts, is_given, later}
 use Rattle.hosts.specs.Tree.{Rules, verdict, ask, missing, on_given, walk, answers_read}
 use Rattle.hosts.specs.Rules.{is_old, needs_mta_sts, is_listed, mta_sts_passes, Taken, nothing, set, needs, is_authentication, needs_dane, needs_authentication, taken_passes, last_verdict, connect, after_answer, seek, start, rules}
 use Rattle.hosts.specs.Arguments.{Arguments, origin_of, address_of, is_alias, lookup_of, offered_of, outcome_of, base_of, presented_in, facts_of}
 use Rattle.hosts.specs.Call.{outcome_answer, walked}
-use Rattle.hosts.specs.Stages.{read_given, later_given, saying, no_set, read_stage, host_read, at_host, expanded_read, at_expanded, tries_of, names_stage, first_stage, handshake_stage, connection, certificate_verdict, ended, found_answer, reaching, walk_answer}
+use Rattle.hosts.specs.Stages.{read_given, later_given, saying, Stage, no_set, read_stage, host_read, at_host, expanded_read, at_expanded, tries_of, names_stage, first_stage, handshake_stage, connection, certificate_verdict, ended, found_answer, reaching, walk_answer}
 use Rattle.hosts.proofs.WalkReturns.{offered_given, outcome_given, tries_meaning}
 
 -- the facts of a call, with what is given
@@ -65,7 +64,7 @@ module _ (b : Base) (s : Taken) (x y : Option Answer) (p : Presented) where
   connect_is n (some true) (some failed) t = refl
   connect_is n (some true) (some (established version)) t = go (needs_authentication b s) (is_old version) t
     where
-      go : (k w t : Bool) → outcome_answer (facts b x y (some true) (some (established version)) t p) n (walk (cond k (cond w (verdict 28) (ask 12 certificates (λ q. verdict (last_verdict (needs_dane s) (needs_mta_sts b) (taken_passes b s q) (mta_sts_passes b q))))) (verdict 2)) (facts b x y (some true) (some (established version)) t p)) ≡ ended n (last_verdict (needs_dane s) (needs_mta_sts b) (taken_passes b s p) (mta_sts_passes b p)) (cond k (cond w (C.Answered (saying 28 n)) (cond t C.Certificates (C.Answered (saying 12 n)))) (C.Answered (saying 2 n)))
+      go : (k w t : Bool) → outcome_answer (facts b x y (some true) (some (established version)) t p) n (walk (cond k (cond w (verdict 28) (ask 12 certificates (λ q. verdict (last_verdict (needs_dane s) (needs_mta_sts b) (taken_passes b s q) (mta_sts_passes b q))))) (verdict 2)) (facts b x y (some true) (some (established version)) t p)) ≡ ended n (last_verdict (needs_dane s) (needs_mta_sts b) (taken_passes b s p) (mta_sts_passes b p)) (cond k (cond w (S.Err (saying 28 n)) (cond t (S.Ok tt) (S.Err (saying 12 n)))) (S.Err (saying 2 n)))
       go true true t = refl
       go true false true = refl
       go true false false = refl
@@ -95,6 +94,18 @@ taken_is L.Insecure lengths records d h = never cc
 taken_is L.Absent lengths records d h = never cc
 taken_is L.Failed lengths records d h = never cc
 
+-- the answer from the connection on, by what it looks at
+abbrev verdict_from : Needs → (e : Bool) → Origin → (domain next_hop : List ℕ) (expanded_next_hop : Option (List ℕ)) (host lengths records : List ℕ) → Presented → ℕ
+verdict_from d e origin domain next_hop expanded_next_hop host lengths records p =
+    last_verdict (is_authentication d) e
+    (not (is_authentication d) || dane_passes (references origin domain next_hop expanded_next_hop) (records_of lengths records) p)
+    (not e || shows_host host p)
+
+abbrev found_from : Numbers → (e : Bool) → Found → (domain next_hop expanded_next_hop host lengths records : List ℕ) → Presented → HostAnswer
+found_from n e f domain next_hop expanded_next_hop host lengths records p =
+    ended f.questions (verdict_from f.needs e (origin_of n.origin) domain next_hop (when (eqb n.expanded_next_hop_given 1) expanded_next_hop) host lengths records p)
+    (connection f.questions f.needs e (offered_of n.starttls) (outcome_of n.handshake n.tls_version) (eqb n.certificates_given 1))
+
 module _ (n : Numbers) (b : Base) (further expanded L1 R1 L2 R2 : List ℕ) (k1 k2 : Bool) (a1 a2 : Answer) (p : Presented) where
   -- the facts of the call
   abbrev these : Facts
@@ -102,7 +113,7 @@ module _ (n : Numbers) (b : Base) (further expanded L1 R1 L2 R2 : List ℕ) (k1 
 
   -- what follows from the set that was found
   abbrev follow : Found → HostAnswer
-  follow f = found_answer n (needs_mta_sts b) f (cond f.expanded expanded b.host) b.next_hop further b.host (cond f.second L2 L1) (cond f.second R2 R1) p
+  follow f = found_from n (needs_mta_sts b) f (cond f.expanded expanded b.host) b.next_hop further b.host (cond f.second L2 L1) (cond f.second R2 R1) p
 
   -- an answer whose set is taken has these records
   abbrev Takes : Bool → Answer → Type 0
@@ -110,7 +121,7 @@ module _ (n : Numbers) (b : Base) (further expanded L1 R1 L2 R2 : List ℕ) (k1 
 
   module _ (oe : origin_of n.origin ≡ b.origin) (xe : when (eqb n.expanded_next_hop_given 1) further ≡ b.expanded_next_hop) (listed : (needs_mta_sts b && not (is_listed b)) ≡ false) where
     found_is : (s : Taken) (d : Needs) (i j : Bool) (q : ℕ) → needs s ≡ d → (is_authentication d ≡ true → taken_passes b s p ≡ dane_passes (references b.origin (cond i expanded b.host) b.next_hop b.expanded_next_hop) (records_of (cond j L2 L1) (cond j R2 R1)) p) → outcome_answer these q (walk (connect b s) these) ≡ follow (record { needs = d; expanded = i; second = j; questions = q })
-    unfolding found_answer certificate_verdict mta_sts_passes
+    unfolding mta_sts_passes
     found_is s d i j q de dp =
         connect_is b s (when k1 a1) (when k2 a2) p q (offered_of n.starttls) (outcome_of n.handshake n.tls_version) (eqb n.certificates_given 1)
         ∙ rw (de, oe, xe, last_same (is_authentication d) (needs_mta_sts b) (is_listed b) (taken_passes b s p) (dane_passes (references b.origin (cond i expanded b.host) b.next_hop b.expanded_next_hop) (records_of (cond j L2 L1) (cond j R2 R1)) p) (shows_host b.host p) dp listed)
@@ -155,7 +166,7 @@ module _ (n : Numbers) (b : Base) (further expanded L1 R1 L2 R2 : List ℕ) (k1 
 
   -- 23 goes before the names
   module _ (oe : origin_of n.origin ≡ b.origin) (xe : when (eqb n.expanded_next_hop_given 1) further ≡ b.expanded_next_hop) (ok1 : Takes false a1) (ok2 : Takes true a2) (f s : Bool) (fe : later (tlsa first) these ≡ f) (se : later (tlsa second) these ≡ s) where
-    listed_is : (u : Bool) → (needs_mta_sts b && not (is_listed b)) ≡ u → (t : Rules) (x : Stage) → ((needs_mta_sts b && not (is_listed b)) ≡ false → outcome_answer these (answers_read t these) (walk t these) ≡ reaching follow x) → outcome_answer these (answers_read (cond u (verdict 23) t) these) (walk (cond u (verdict 23) t) these) ≡ reaching follow (cond u (S.Answered (saying 23 0)) x)
+    listed_is : (u : Bool) → (needs_mta_sts b && not (is_listed b)) ≡ u → (t : Rules) (x : Stage) → ((needs_mta_sts b && not (is_listed b)) ≡ false → outcome_answer these (answers_read t these) (walk t these) ≡ reaching follow x) → outcome_answer these (answers_read (cond u (verdict 23) t) these) (walk (cond u (verdict 23) t) these) ≡ reaching follow (cond u (S.Err (saying 23 0)) x)
     listed_is true ue t x h = refl
     listed_is false ue t x h = h ue
 
@@ -190,8 +201,8 @@ expanded_is A.Failed e h = never cc
 expanded_is A.NoAddress e h = never cc
 
 -- the walk of a call
-pub walk_is : (a : Arguments) → walked (facts_of a) ≡ walk_answer a.numbers (needs_mta_sts (base_of a)) (needs_mta_sts (base_of a) && not (is_listed (base_of a))) a.next_hop a.expanded_next_hop a.host a.expanded a.lengths1 a.records1 a.lengths2 a.records2 (presented_in a)
-unfolding facts_of rules walk_answer first_stage base_of later_given
+pub walk_is : (a : Arguments) → walked (facts_of a) ≡ walk_answer a (needs_mta_sts (base_of a)) (needs_mta_sts (base_of a) && not (is_listed (base_of a)))
+unfolding facts_of rules walk_answer found_answer certificate_verdict first_stage base_of later_given
 walk_is a =
     rw (← tries_meaning (address_of a.numbers.address))
     (names_are a.numbers (base_of a) a.expanded_next_hop a.expanded a.lengths1 a.records1 a.lengths2 a.records2

@@ -11,7 +11,7 @@ use Rattle.lists.proofs.Bools.{apart, and_left, and_intro, by_cond}
 use Rattle.lists.proofs.Any.{any_none}
 use Rattle.lists.proofs.All.{all_drop}
 use Rattle.numbers.specs.Pieces.{up_to}
-use Rattle.numbers.proofs.Pieces.{up_to_true}
+use Rattle.numbers.proofs.Cut.{up_to_true}
 use Rattle.names.specs.Name.{is_name}
 use Rattle.tlsa.specs.declared.Address.{Address}
 use Rattle.tlsa.specs.declared.Address.TheVariants.{NoAliasSecure, NoAliasInsecure, AliasSecure, AliasFirstStepSecure, AliasFirstStepInsecure, Failed, NoAddress}

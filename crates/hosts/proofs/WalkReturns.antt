@@ -3,17 +3,16 @@ use Prim.Native.Nat.{ℕ, ◌+◌, ◌<◌, ◌≤◌}
 use mathlib.Core.Path.{◌≡◌, refl, sym, ◌∙◌}
 use mathlib.Core.Bool.{Bool, true, false, cond, not, ◌&&◌, ◌||◌}
 use mathlib.Core.List.{List}
-use mathlib.Core.Option.{Option, none, some}
+use mathlib.Core.Option.{none, some}
 use lib.Dec.{eqb, leb}
 use borrow.Author.Rules.{rules}
-use borrow.Author.Tests.{not-true, not-false, lt-ltb, le-ltb, ne_eqb}
+use borrow.Author.Tests.{not-true, not-false, lt-ltb, le-ltb, lt-leb, le-leb, ne_eqb}
 use Rattle.clock.specs.Clock.{is_live}
 use Rattle.policies.specs.declared.PolicyAnswer.{PolicyAnswer}
 use Rattle.policies.specs.declared.PolicyFor.{PolicyFor}
 use Rattle.policies.specs.Policy.{policy_for}
 use Rattle.tlsa.specs.declared.Address.{Address}
 use Rattle.tlsa.specs.declared.Address.TheVariants as A
-use Rattle.tlsa.specs.declared.Lookup.{Lookup}
 use Rattle.tlsa.specs.declared.Needs.{Needs}
 use Rattle.tlsa.specs.declared.Needs.TheVariants as N
 use Rattle.tlsa.specs.declared.Read.{Read}
@@ -21,22 +20,20 @@ use Rattle.tlsa.specs.declared.Read.TheVariants as R
 use Rattle.tlsa.specs.declared.Tries.{Tries}
 use Rattle.tlsa.specs.declared.Tries.TheVariants.{ExpandedThenHost, HostOnly, NoName, AddressFailed, AddressMissing}
 use Rattle.tlsa.specs.Address.{names_to_try, meaning_of}
-use Rattle.tlsa.specs.Answer.{answer_of, read_of, lookup_verdict, read_verdict, records_of}
+use Rattle.tlsa.specs.Answer.{answer_of, read_of, lookup_verdict, read_verdict}
 use Rattle.tlsa.proofs.Meaning.{meaning_one}
-use Rattle.certificates.specs.declared.Origin.{Origin}
 use Rattle.certificates.specs.Facts.{Presented, when}
 use Rattle.certificates.specs.Checks.{references, dane_passes, shows_host}
 use Rattle.hosts.specs.declared.HostAnswer.{HostAnswer}
-use Rattle.hosts.specs.declared.Numbers.{Numbers}
-use Rattle.hosts.specs.declared.MaybeRead.{MaybeRead}
-use Rattle.hosts.specs.declared.MaybeRead.TheVariants.{NotGiven, Is}
+use Rattle.std.specs.Prelude as S
+use Rattle.std.specs.Result.{IsErrAnd}
 use Rattle.hosts.specs.declared.Found.{Found}
-use Rattle.hosts.specs.declared.Stage.{Stage}
-use Rattle.hosts.specs.declared.Connection.{Connection}
 use Rattle.hosts.specs.Facts.{established, failed, is_given}
 use Rattle.hosts.specs.Rules.{is_authentication, is_tls, is_old, last_verdict}
-use Rattle.hosts.specs.Arguments.{origin_of, address_of, lookup_of, offered_of, outcome_of}
-use Rattle.hosts.specs.Stages.{no_policy, given_policy, policy_needs, read_given, later_given, asking, saying, read_stage, host_read, at_host, expanded_read, at_expanded, tries_of, names_stage, first_stage, handshake_stage, connection, certificate_verdict, found_answer, walk_answer}
+use Rattle.tlsa.specs.declared.TlsaAnswer.{TlsaAnswer}
+use Rattle.tlsa.specs.Answer.{answer_in}
+use Rattle.hosts.specs.Arguments.{Arguments, origin_of, address_of, lookup_of, offered_of, outcome_of, presented_in}
+use Rattle.hosts.specs.Stages.{no_policy, given_policy, policy_needs, read_given, later_given, asking, saying, read_stage, host_read, at_host, expanded_read, at_expanded, Stage, tries_of, names_stage, first_stage, Connection, handshake_stage, connection, domain_of, records_at, certificate_verdict, found_answer, walk_answer, answer_of_walk}
 
 -- `ask`
 module _ (number n : ℕ) (later : Bool) (x : HostAnswer) where
@@ -82,56 +79,68 @@ module _ (e t : Bool) where
 
 pub ruleset unlisted_laws = (unlisted_not, unlisted_by, not-true, not-false, rules)
 
--- `read_given`
-module _ (given : Bool) (result : ℕ) (L R : List ℕ) where
-  pub read_none : given ≡ false → MaybeRead.NotGiven ≡ read_given (when given (answer_of (lookup_of result) L R))
+-- `read_given`: a is the answer
+module _ (given : Bool) (code : ℕ) (L R : List ℕ) where
+  pub read_none : given ≡ false → S.None ≡ read_given (when given (answer_of (lookup_of code) L R))
   unfolding read_given
   read_none h = rw h
 
-  pub read_some : given ≡ true → (l : Lookup) → l ≡ lookup_of result → (x : Read) → (x ≡ read_of (answer_of l L R)) × (read_verdict x ≡ lookup_verdict (answer_of l L R)) → MaybeRead.Is x ≡ read_given (when given (answer_of (lookup_of result) L R))
+  pub read_some : given ≡ true → (a : TlsaAnswer) → answer_in a ≡ answer_of (lookup_of code) L R → (x : Read) → (x ≡ read_of (answer_in a)) × (read_verdict x ≡ lookup_verdict (answer_in a)) → S.Some x ≡ read_given (when given (answer_of (lookup_of code) L R))
   unfolding read_given
-  read_some h l le x e = rw (h, ← le, ← e.0)
+  read_some h a ae x e = rw (h, ← ae, ← e.0)
 
 pub ruleset read_laws = (read_none, read_some, not-true, not-false, rules)
 
--- `later_given`
+-- `later_than_starttls`, `later_given`, `later_than_first`
 module _ (s h c : ℕ) where
+  pub given_handshake : (h ≡ 0 → ⊥) → true ≡ (not (eqb h 0) || eqb c 1)
+  given_handshake k = rw (ne_eqb h 0 k)
+
+  pub given_certificates : h ≡ 0 → eqb c 1 ≡ (not (eqb h 0) || eqb c 1)
+  given_certificates k = rw k
+
   pub later_starttls : (s ≡ 0 → ⊥) → true ≡ later_given s h c
   unfolding later_given
   later_starttls k = rw (ne_eqb s 0 k)
 
-  module _ (z : s ≡ 0) where
-    pub later_handshake : (h ≡ 0 → ⊥) → true ≡ later_given s h c
-    unfolding later_given
-    later_handshake k = rw (z, ne_eqb h 0 k)
+  pub later_rest : s ≡ 0 → (r : Bool) → r ≡ (not (eqb h 0) || eqb c 1) → r ≡ later_given s h c
+  unfolding later_given
+  later_rest z r e = rw z e
 
-    pub later_certificates : h ≡ 0 → eqb c 1 ≡ later_given s h c
-    unfolding later_given
-    later_certificates k = rw (z, k)
+pub ruleset handshake_given_laws = (given_handshake, given_certificates, rules)
 
-pub ruleset later_laws = (later_starttls, later_handshake, later_certificates, rules)
+pub ruleset later_laws = (later_starttls, later_rest, rules)
+
+module _ (n : ℕ) (l : Bool) where
+  pub first_second : 2 ≤ n → true ≡ (leb 2 n || l)
+  first_second h = rw (le-leb 2 n h)
+
+  pub first_later : n < 2 → (r : Bool) → r ≡ l → r ≡ (leb 2 n || l)
+  first_later h r e = rw (lt-leb 2 n h) e
+
+pub ruleset after_first_laws = (first_second, first_later, rules)
 
 -- `read_at_host`, `at_host`
 module _ (second : Bool) (n : ℕ) where
   module _ (read : Read) where
-    pub host_failed : read ≡ R.LookupFailed → (x : HostAnswer) → x ≡ saying 22 (n + 1) → Stage.Answered x ≡ host_read second n read
+    pub host_failed : read ≡ R.LookupFailed → (x : HostAnswer) → x ≡ saying 22 (n + 1) → S.Err x ≡ host_read second n read
     unfolding host_read read_stage
     host_failed h x e = rw (h, e)
 
-    pub host_taken : (d : Needs) → read ≡ R.Taken d → Stage.Connect (record { needs = d; expanded = false; second = second; questions = n + 1 }) ≡ host_read second n read
+    pub host_taken : (d : Needs) → read ≡ R.Taken d → S.Ok (record { needs = d; expanded = false; second = second; questions = n + 1 }) ≡ host_read second n read
     unfolding host_read read_stage
     host_taken d h = rw h
 
-    pub host_next : read ≡ R.NextName → Stage.Connect (record { needs = Needs.Nothing; expanded = false; second = false; questions = n + 1 }) ≡ host_read second n read
+    pub host_next : read ≡ R.NextName → S.Ok (record { needs = Needs.Nothing; expanded = false; second = false; questions = n + 1 }) ≡ host_read second n read
     unfolding host_read read_stage
     host_next h = rw h
 
-  module _ (later : Bool) (given : MaybeRead) where
-    pub host_asked : given ≡ NotGiven → (x : HostAnswer) → x ≡ asking 14 n later → Stage.Answered x ≡ at_host second n later given
+  module _ (later : Bool) (given : S.Option Read) where
+    pub host_asked : given ≡ S.None → (x : HostAnswer) → x ≡ asking 14 n later → S.Err x ≡ at_host second n later given
     unfolding at_host
     host_asked h x e = rw (h, e)
 
-    pub host_read_lem : (r : Read) → given ≡ Is r → (x : Stage) → x ≡ host_read second n r → x ≡ at_host second n later given
+    pub host_read_lem : (r : Read) → given ≡ S.Some r → (x : Stage) → x ≡ host_read second n r → x ≡ at_host second n later given
     unfolding at_host
     host_read_lem r h x e = rw h e
 
@@ -140,13 +149,13 @@ pub ruleset host_read_laws = (host_failed, host_taken, host_next, rules)
 pub ruleset host_laws = (host_asked, host_read_lem, rules)
 
 -- `read_at_expanded`, `at_expanded`
-module _ (later : Bool) (y : MaybeRead) where
+module _ (later : Bool) (y : S.Option Read) where
   module _ (read : Read) where
-    pub expanded_failed : read ≡ R.LookupFailed → (x : HostAnswer) → x ≡ saying 22 1 → Stage.Answered x ≡ expanded_read later y read
+    pub expanded_failed : read ≡ R.LookupFailed → (x : HostAnswer) → x ≡ saying 22 1 → S.Err x ≡ expanded_read later y read
     unfolding expanded_read read_stage
     expanded_failed h x e = rw (h, e)
 
-    pub expanded_taken : (d : Needs) → read ≡ R.Taken d → Stage.Connect (record { needs = d; expanded = true; second = false; questions = 1 }) ≡ expanded_read later y read
+    pub expanded_taken : (d : Needs) → read ≡ R.Taken d → S.Ok (record { needs = d; expanded = true; second = false; questions = 1 }) ≡ expanded_read later y read
     unfolding expanded_read read_stage
     expanded_taken d h = rw h
 
@@ -154,12 +163,12 @@ module _ (later : Bool) (y : MaybeRead) where
     unfolding expanded_read read_stage
     expanded_next h x e = rw h e
 
-  module _ (f : Bool) (given : MaybeRead) where
-    pub expanded_asked : given ≡ NotGiven → (x : HostAnswer) → x ≡ asking 13 0 f → Stage.Answered x ≡ at_expanded f later given y
+  module _ (f : Bool) (given : S.Option Read) where
+    pub expanded_asked : given ≡ S.None → (x : HostAnswer) → x ≡ asking 13 0 f → S.Err x ≡ at_expanded f later given y
     unfolding at_expanded
     expanded_asked h x e = rw (h, e)
 
-    pub expanded_read_lem : (r : Read) → given ≡ Is r → (x : Stage) → x ≡ expanded_read later y r → x ≡ at_expanded f later given y
+    pub expanded_read_lem : (r : Read) → given ≡ S.Some r → (x : Stage) → x ≡ expanded_read later y r → x ≡ at_expanded f later given y
     unfolding at_expanded
     expanded_read_lem r h x e = rw h e
 
@@ -168,31 +177,29 @@ pub ruleset expanded_read_laws = (expanded_failed, expanded_taken, expanded_next
 pub ruleset expanded_laws = (expanded_asked, expanded_read_lem, rules)
 
 -- `at_names`
-module _ (t : Tries) (u f s : Bool) (y z : MaybeRead) where
+module _ (t : Tries) (u f s : Bool) (y z : S.Option Read) where
   module _ (x : HostAnswer) where
-    pub names_20 : t ≡ AddressFailed → x ≡ saying 20 0 → Stage.Answered x ≡ names_stage t u f s y z
+    pub names_20 : t ≡ AddressFailed → x ≡ saying 20 0 → S.Err x ≡ names_stage t u f s y z
     unfolding names_stage
     names_20 h e = rw (h, e)
 
-    pub names_21 : t ≡ AddressMissing → x ≡ saying 21 0 → Stage.Answered x ≡ names_stage t u f s y z
+    pub names_21 : t ≡ AddressMissing → x ≡ saying 21 0 → S.Err x ≡ names_stage t u f s y z
     unfolding names_stage
     names_21 h e = rw (h, e)
 
-    module _ (e : x ≡ saying 23 0) (k : u ≡ true) where
-      pub no_name_23 : t ≡ NoName → Stage.Answered x ≡ names_stage t u f s y z
-      unfolding names_stage
-      no_name_23 h = rw (h, k, e)
-
-      pub host_23 : t ≡ HostOnly → Stage.Answered x ≡ names_stage t u f s y z
-      unfolding names_stage
-      host_23 h = rw (h, k, e)
-
-      pub expanded_23 : t ≡ ExpandedThenHost → Stage.Answered x ≡ names_stage t u f s y z
-      unfolding names_stage
-      expanded_23 h = rw (h, k, e)
+    pub names_23 : (t ≡ AddressFailed → ⊥) → (t ≡ AddressMissing → ⊥) → u ≡ true → x ≡ saying 23 0 → S.Err x ≡ names_stage t u f s y z
+    unfolding names_stage
+    names_23 h k ut e = rw (ut, e) (go t h k)
+      where
+        go : (t : Tries) → (t ≡ AddressFailed → ⊥) → (t ≡ AddressMissing → ⊥) → S.Err (saying 23 0) ≡ names_stage t true f s y z
+        go AddressFailed h k = absurd (h refl)
+        go AddressMissing h k = absurd (k refl)
+        go NoName h k = refl
+        go HostOnly h k = refl
+        go ExpandedThenHost h k = refl
 
   module _ (k : u ≡ false) where
-    pub no_name : t ≡ NoName → Stage.Connect (record { needs = Needs.Nothing; expanded = false; second = false; questions = 0 }) ≡ names_stage t u f s y z
+    pub no_name : t ≡ NoName → S.Ok (record { needs = Needs.Nothing; expanded = false; second = false; questions = 0 }) ≡ names_stage t u f s y z
     unfolding names_stage
     no_name h = rw (h, k)
 
@@ -204,18 +211,9 @@ module _ (t : Tries) (u f s : Bool) (y z : MaybeRead) where
     unfolding names_stage
     expanded_first h x e = rw (h, k) e
 
-pub ruleset names_laws = (names_20, names_21, no_name_23, host_23, expanded_23, no_name, host_first, expanded_first, rules)
+pub ruleset names_laws = (names_20, names_21, names_23, no_name, host_first, expanded_first, not-true, not-false, rules)
 
--- `one_holds`
-pub holds_first : (a b : Bool) → a ≡ true → true ≡ (a || b)
-holds_first a b h = rw h
-
-pub holds_second : (a b : Bool) → a ≡ false → b ≡ (a || b)
-holds_second a b h = rw h
-
-pub ruleset holds_laws = (holds_first, holds_second, rules)
-
--- `first_stage`: what its calls gave
+-- `find_set`: what its calls gave
 pub tries_meaning : (a : Address) → meaning_of (tries_of a) ≡ names_to_try a
 unfolding tries_of
 tries_meaning A.NoAliasSecure = refl
@@ -226,61 +224,69 @@ tries_meaning A.AliasFirstStepInsecure = refl
 tries_meaning A.Failed = refl
 tries_meaning A.NoAddress = refl
 
-pub stage_is : (n : Numbers) (u : Bool) (y z : MaybeRead) (a : Address) → a ≡ address_of n.address → (t : Tries) → meaning_of t ≡ names_to_try a → (l : Bool) → l ≡ later_given n.starttls n.handshake n.certificates_given → (f : Bool) → f ≡ (leb 2 n.tlsa_answers || l) → (x : Stage) → x ≡ names_stage t u f l y z → x ≡ first_stage n u y z
+pub stage_is : (a : Arguments) (u : Bool) (y : S.Option Read) → y ≡ read_given (when (leb 1 a.numbers.tlsa_answers) (answer_of (lookup_of a.numbers.tlsa1_result) a.lengths1 a.records1)) → (z : S.Option Read) → z ≡ read_given (when (leb 2 a.numbers.tlsa_answers) (answer_of (lookup_of a.numbers.tlsa2_result) a.lengths2 a.records2)) → (l : Bool) → l ≡ later_given a.numbers.starttls a.numbers.handshake a.numbers.certificates_given → (f : Bool) → f ≡ (leb 2 a.numbers.tlsa_answers || later_given a.numbers.starttls a.numbers.handshake a.numbers.certificates_given) → (d : Address) → d ≡ address_of a.numbers.address → (t : Tries) → meaning_of t ≡ names_to_try d → (x : Stage) → x ≡ names_stage t u f l y z → x ≡ first_stage a u
 unfolding first_stage
-stage_is n u y z a ae t te l le f fe x e =
-    let k : t ≡ tries_of a = meaning_one t (tries_of a) (te ∙ sym (tries_meaning a)) in
-    rw (← ae, ← le, ← k, ← fe) e
+stage_is a u y ye z ze l le f fe d de t te x e =
+    let k : t ≡ tries_of d = meaning_one t (tries_of d) (te ∙ sym (tries_meaning d)) in
+    rw (← de, ← fe, ← le, ← k, ← ye, ← ze) e
 
 pub ruleset stage_laws = (stage_is, rules)
 
 -- `unless_needed`
 module _ (number : ℕ) (d : Needs) (e : Bool) where
-  pub unless_sts : d ≡ N.Nothing → e ≡ true → number ≡ cond (is_tls d || e) number 1
-  unless_sts h k = rw (h, k)
-
   pub unless_nothing : d ≡ N.Nothing → e ≡ false → 1 ≡ cond (is_tls d || e) number 1
   unless_nothing h k = rw (h, k)
 
-  pub unless_tls : d ≡ N.Tls → number ≡ cond (is_tls d || e) number 1
-  unless_tls h = rw h
+  pub unless_sts : d ≡ N.Nothing → e ≡ true → number ≡ cond (is_tls d || e) number 1
+  unless_sts h k = rw (h, k)
 
-  pub unless_authentication : d ≡ N.Authentication → number ≡ cond (is_tls d || e) number 1
-  unless_authentication h = rw h
+  pub unless_set : (d ≡ N.Nothing → ⊥) → number ≡ cond (is_tls d || e) number 1
+  unless_set h = go d h
+    where
+      go : (d : Needs) → (d ≡ N.Nothing → ⊥) → number ≡ cond (is_tls d || e) number 1
+      go N.Nothing h = absurd (h refl)
+      go N.Tls h = refl
+      go N.Authentication h = refl
 
-pub ruleset unless_laws = (unless_sts, unless_nothing, unless_tls, unless_authentication, rules)
+pub ruleset unless_laws = (unless_nothing, unless_sts, unless_set, not-true, not-false, rules)
 
 -- `at_handshake`
 module _ (n : ℕ) (d : Needs) (e : Bool) (m version : ℕ) (c : Bool) where
   module _ (x : HostAnswer) where
-    pub handshake_asked : m ≡ 0 → x ≡ asking 11 n c → Connection.Answered x ≡ handshake_stage n d e (outcome_of m version) c
+    pub handshake_asked : m ≡ 0 → x ≡ asking 11 n c → S.Err x ≡ handshake_stage n d e (outcome_of m version) c
     unfolding handshake_stage
     handshake_asked h k = rw (h, k)
 
-    pub handshake_failed : (m ≡ 0 → ⊥) → (m ≡ 1 → ⊥) → (v : ℕ) → v ≡ cond (is_tls d || e) 25 1 → x ≡ saying v n → Connection.Answered x ≡ handshake_stage n d e (outcome_of m version) c
+    pub handshake_failed : (m ≡ 0 → ⊥) → (m ≡ 1 → ⊥) → (v : ℕ) → v ≡ cond (is_tls d || e) 25 1 → x ≡ saying v n → S.Err x ≡ handshake_stage n d e (outcome_of m version) c
     unfolding handshake_stage
     handshake_failed h k v ve g = rw (ne_eqb m 0 h, ne_eqb m 1 k, g, ve)
 
-  module _ (up : m ≡ 1) (dane : Bool) (de : dane ≡ is_authentication d) (k : Bool) (ke : k ≡ (dane || e)) where
-    pub handshake_unneeded : k ≡ false → (x : HostAnswer) → x ≡ saying 2 n → Connection.Answered x ≡ handshake_stage n d e (outcome_of m version) c
+  module _ (up : m ≡ 1) (dane : Bool) (de : dane ≡ is_authentication d) where
+    pub handshake_unneeded : dane ≡ false → e ≡ false → (x : HostAnswer) → x ≡ saying 2 n → S.Err x ≡ handshake_stage n d e (outcome_of m version) c
     unfolding handshake_stage
-    handshake_unneeded h x g = rw (up, ← de, ← ke, h, g)
+    handshake_unneeded h k x g = rw (up, ← de, h, k, g)
 
-    module _ (kt : k ≡ true) where
-      pub handshake_old : version < 771 → (x : HostAnswer) → x ≡ saying 28 n → Connection.Answered x ≡ handshake_stage n d e (outcome_of m version) c
+    module _ (kt : (dane || e) ≡ true) where
+      pub handshake_old : version < 771 → (x : HostAnswer) → x ≡ saying 28 n → S.Err x ≡ handshake_stage n d e (outcome_of m version) c
       unfolding handshake_stage is_old
-      handshake_old o x g = rw (up, ← de, ← ke, kt, lt-ltb version 771 o, g)
+      handshake_old o x g = rw (up, ← de, kt, lt-ltb version 771 o, g)
 
       module _ (o : 771 ≤ version) where
-        pub handshake_given : c ≡ true → Connection.Certificates ≡ handshake_stage n d e (outcome_of m version) c
+        pub handshake_given : c ≡ true → S.Ok tt ≡ handshake_stage n d e (outcome_of m version) c
         unfolding handshake_stage is_old
-        handshake_given h = rw (up, ← de, ← ke, kt, le-ltb version 771 o, h)
+        handshake_given h = rw (up, ← de, kt, le-ltb version 771 o, h)
 
-        pub handshake_certificates : c ≡ false → (x : HostAnswer) → x ≡ saying 12 n → Connection.Answered x ≡ handshake_stage n d e (outcome_of m version) c
+        pub handshake_certificates : c ≡ false → (x : HostAnswer) → x ≡ saying 12 n → S.Err x ≡ handshake_stage n d e (outcome_of m version) c
         unfolding handshake_stage is_old
-        handshake_certificates h x g = rw (up, ← de, ← ke, kt, le-ltb version 771 o, h, g)
+        handshake_certificates h x g = rw (up, ← de, kt, le-ltb version 771 o, h, g)
 
-pub ruleset handshake_laws = (handshake_asked, handshake_failed, handshake_unneeded, handshake_old, handshake_given, handshake_certificates, not-true, not-false, rules)
+pub or_first : (a b : Bool) → a ≡ true → (a || b) ≡ true
+or_first a b h = rw h
+
+pub or_second : (a b : Bool) → a ≡ false → b ≡ true → (a || b) ≡ true
+or_second a b h k = rw (h, k)
+
+pub ruleset handshake_laws = (handshake_asked, handshake_failed, handshake_unneeded, handshake_old, handshake_given, handshake_certificates, or_first, or_second, not-true, not-false, rules)
 
 -- what is given by its code
 code_given : {A : Type 0} (n : ℕ) (a : A) → is_given (cond (eqb n 0) none (some a)) ≡ not (eqb n 0)
@@ -298,11 +304,11 @@ outcome_given m version = code_given m (cond (eqb m 1) (established version) fai
 
 -- `at_starttls`
 module _ (n : ℕ) (d : Needs) (e : Bool) (s m version : ℕ) (c : Bool) where
-  pub starttls_asked : s ≡ 0 → (l : Bool) → l ≡ (not (eqb m 0) || c) → (x : HostAnswer) → x ≡ asking 10 n l → Connection.Answered x ≡ connection n d e (offered_of s) (outcome_of m version) c
+  pub starttls_asked : s ≡ 0 → (l : Bool) → l ≡ (not (eqb m 0) || c) → (x : HostAnswer) → x ≡ asking 10 n l → S.Err x ≡ connection n d e (offered_of s) (outcome_of m version) c
   unfolding connection
   starttls_asked h l le x g = rw (h, outcome_given m version, ← le, g)
 
-  pub starttls_not : (s ≡ 0 → ⊥) → (s ≡ 1 → ⊥) → (v : ℕ) → v ≡ cond (is_tls d || e) 24 1 → (x : HostAnswer) → x ≡ saying v n → Connection.Answered x ≡ connection n d e (offered_of s) (outcome_of m version) c
+  pub starttls_not : (s ≡ 0 → ⊥) → (s ≡ 1 → ⊥) → (v : ℕ) → v ≡ cond (is_tls d || e) 24 1 → (x : HostAnswer) → x ≡ saying v n → S.Err x ≡ connection n d e (offered_of s) (outcome_of m version) c
   unfolding connection
   starttls_not h k v ve x g = rw (ne_eqb s 0 h, ne_eqb s 1 k, g, ve)
 
@@ -350,33 +356,30 @@ needed_is s t r h e = cc
 
 pub ruleset needed_laws = (needed_not, needed_is, not-true, not-false, rules)
 
--- `at_certificates`: t, x, y are what its calls gave
-pub verdict_is : (d : Needs) (e : Bool) (o : Origin) (domain hop : List ℕ) (further : Option (List ℕ)) (host L R : List ℕ) (p : Presented) (t : Bool) → t ≡ is_authentication d → (x : Bool) → x ≡ (not t || dane_passes (references o domain hop further) (records_of L R) p) → (y : Bool) → y ≡ (not e || shows_host host p) → (v : ℕ) → v ≡ last_verdict t e x y → v ≡ certificate_verdict d e o domain hop further host L R p
+-- `certificate_verdict`: p, t, x, y are what its calls gave
+pub verdict_is : (a : Arguments) (f : Found) (e : Bool) (p : Presented) → p ≡ presented_in a → (t : Bool) → t ≡ is_authentication f.needs → (x : Bool) → x ≡ (not t || dane_passes (references (origin_of a.numbers.origin) (domain_of a f) a.next_hop (when (eqb a.numbers.expanded_next_hop_given 1) a.expanded_next_hop)) (records_at a f) p) → (y : Bool) → y ≡ (not e || shows_host a.host p) → (v : ℕ) → v ≡ last_verdict t e x y → v ≡ certificate_verdict a f e
 unfolding certificate_verdict
-verdict_is d e o domain hop further host L R p t te x xe y ye v ve = rw (← te, ← xe, ← ye) ve
+verdict_is a f e p pe t te x xe y ye v ve = rw (← te, ← pe, ← xe, ← ye) ve
 
 pub ruleset verdict_laws = (verdict_is, rules)
 
--- `at_connection`: s, o, v are what its calls gave
-module _ (n : Numbers) (e : Bool) (f : Found) (domain hop further host L R : List ℕ) (p : Presented) (s : Connection) (se : s ≡ connection f.questions f.needs e (offered_of n.starttls) (outcome_of n.handshake n.tls_version) (eqb n.certificates_given 1)) (x : HostAnswer) where
-  pub found_answered : s ≡ Connection.Answered x → x ≡ found_answer n e f domain hop further host L R p
-  unfolding found_answer
-  found_answered h = rw (← se, h)
+-- `walk`: what a `?` hands on, and s and c, what its calls gave
+pub ended_at : (r : S.Result HostAnswer HostAnswer) (x : HostAnswer) → IsErrAnd r (λ (y : HostAnswer). y ≡ x) → answer_of_walk r ≡ x
+ended_at (S.Err y) x h = h
+ended_at (S.Ok y) x h = absurd h
 
-  pub found_certificates : s ≡ Connection.Certificates → (o : Origin) → o ≡ origin_of n.origin → (v : ℕ) → v ≡ certificate_verdict f.needs e o domain hop (when (eqb n.expanded_next_hop_given 1) further) host L R p → x ≡ saying v f.questions → x ≡ found_answer n e f domain hop further host L R p
-  unfolding found_answer
-  found_certificates h o oe v ve xe = rw (← se, h, ← oe, ← ve) xe
-
-pub ruleset found_laws = (found_answered, found_certificates, rules)
-
--- `walk_facts`: y, z, s, D, L, R are what its calls gave
-module _ (n : Numbers) (e u : Bool) (hop further host expanded L1 R1 L2 R2 : List ℕ) (p : Presented) (y : MaybeRead) (ye : y ≡ read_given (when (leb 1 n.tlsa_answers) (answer_of (lookup_of n.tlsa1_result) L1 R1))) (z : MaybeRead) (ze : z ≡ read_given (when (leb 2 n.tlsa_answers) (answer_of (lookup_of n.tlsa2_result) L2 R2))) (s : Stage) (se : s ≡ first_stage n u y z) (x : HostAnswer) where
-  pub walk_answered : s ≡ Stage.Answered x → x ≡ walk_answer n e u hop further host expanded L1 R1 L2 R2 p
+module _ (a : Arguments) (e u : Bool) (s : Stage) (se : s ≡ first_stage a u) where
+  pub walk_ended : (x : HostAnswer) → s ≡ S.Err x → x ≡ walk_answer a e u
   unfolding walk_answer
-  walk_answered h = rw (← ye, ← ze, ← se, h)
+  walk_ended x h = rw (← se, h)
 
-  pub walk_connected : (f : Found) → s ≡ Stage.Connect f → (D : List ℕ) → D ≡ cond f.expanded expanded host → (L : List ℕ) → L ≡ cond f.second L2 L1 → (R : List ℕ) → R ≡ cond f.second R2 R1 → x ≡ found_answer n e f D hop further host L R p → x ≡ walk_answer n e u hop further host expanded L1 R1 L2 R2 p
-  unfolding walk_answer
-  walk_connected f h D De L Le R Re xe = rw (← ye, ← ze, ← se, h, ← De, ← Le, ← Re) xe
+  module _ (f : Found) (sf : s ≡ S.Ok f) (c : Connection) (ce : c ≡ connection f.questions f.needs e (offered_of a.numbers.starttls) (outcome_of a.numbers.handshake a.numbers.tls_version) (eqb a.numbers.certificates_given 1)) where
+    pub walk_answered : (x : HostAnswer) → c ≡ S.Err x → x ≡ walk_answer a e u
+    unfolding walk_answer found_answer
+    walk_answered x h = rw (← se, sf, ← ce, h)
 
-pub ruleset walk_laws = (walk_answered, walk_connected, rules)
+    pub walk_certificates : (w : Unit {0}) → c ≡ S.Ok w → (v : ℕ) → v ≡ certificate_verdict a f e → (x : HostAnswer) → x ≡ saying v f.questions → x ≡ walk_answer a e u
+    unfolding walk_answer found_answer
+    walk_certificates w h v ve x xe = rw (← se, sf, ← ce, h, ← ve) xe
+
+pub ruleset walk_laws = (walk_ended, walk_answered, walk_certificates, rules)

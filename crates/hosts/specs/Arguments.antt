@@ -4,12 +4,13 @@ use Rattle.std.proofs.Math.Option.{Option, none, some}
 use Rattle.policies.specs.Policy.{Reading, too_long, malformed, incomplete, policy, read_body}
 use Rattle.tlsa.specs.declared.Address.{Address}
 use Rattle.tlsa.specs.declared.Address.TheVariants.{NoAliasSecure, NoAliasInsecure, AliasSecure, AliasFirstStepSecure, AliasFirstStepInsecure, Failed, NoAddress}
-use Rattle.tlsa.specs.declared.Lookup.{Lookup}
-use Rattle.tlsa.specs.declared.Lookup.TheVariants as L
+use Rattle.tlsa.specs.Answer.{Lookup}
+use Rattle.tlsa.specs.Answer as L
 use Rattle.tlsa.specs.Answer.{answer_of}
 use Rattle.certificates.specs.Facts.{Presented, when, presented_of}
 use Rattle.certificates.specs.declared.Origin.{Origin}
 use Rattle.certificates.specs.declared.Origin.TheVariants.{SecureMx, InsecureMx, NoMx}
+use Rattle.hosts.specs.declared.HostCall.{HostCall}
 use Rattle.hosts.specs.declared.Numbers.{Numbers}
 use Rattle.hosts.specs.Facts.{HeldPolicy, Base, Handshake, established, failed, Facts}
 
@@ -128,3 +129,7 @@ arguments_of n next_hop expanded_next_hop host expanded body lengths1 records1 l
   dns_id_lengths = dns_id_lengths;
   common_name = common_name;
 }
+
+-- the arguments that a call's struct holds
+abbrev pub said_by : HostCall → Arguments
+said_by c = arguments_of c.numbers c.next_hop.now c.expanded_next_hop.now c.host.now c.expanded.now c.policy.now c.tlsa1.lengths.now c.tlsa1.bytes.now c.tlsa2.lengths.now c.tlsa2.bytes.now c.chain.certificates.now c.chain.lengths.now c.chain.key_places.now c.chain.digests.now c.chain.paths.now c.dns_ids.bytes.now c.dns_ids.lengths.now c.common_name.now

@@ -17,24 +17,16 @@ use Rattle.tlsa.specs.declared.Read.TheVariants as R
 use Rattle.tlsa.specs.declared.Tries.{Tries}
 use Rattle.tlsa.specs.declared.Tries.TheVariants.{ExpandedThenHost, HostOnly, NoName, AddressFailed, AddressMissing}
 use Rattle.tlsa.specs.Answer.{Answer, records_of, answer_of, read_of}
-use Rattle.certificates.specs.declared.Origin.{Origin}
-use Rattle.certificates.specs.Facts.{Presented, when}
+use Rattle.certificates.specs.Facts.{when}
 use Rattle.certificates.specs.Checks.{references, dane_passes, shows_host}
 use Rattle.certificates.specs.Limits.{yes_no}
 use Rattle.hosts.specs.declared.HostAnswer.{HostAnswer}
 use Rattle.hosts.specs.declared.Numbers.{Numbers}
-use Rattle.hosts.specs.declared.Refusal.{Refusal}
-use Rattle.hosts.specs.declared.Refusal.TheVariants as F
-use Rattle.hosts.specs.declared.MaybeRead.{MaybeRead}
-use Rattle.hosts.specs.declared.MaybeRead.TheVariants.{NotGiven, Is}
+use Rattle.std.specs.Prelude as S
 use Rattle.hosts.specs.declared.Found.{Found}
-use Rattle.hosts.specs.declared.Stage.{Stage}
-use Rattle.hosts.specs.declared.Stage.TheVariants as S
-use Rattle.hosts.specs.declared.Connection.{Connection}
-use Rattle.hosts.specs.declared.Connection.TheVariants as C
 use Rattle.hosts.specs.Facts.{Handshake, established, failed, is_given}
 use Rattle.hosts.specs.Rules.{is_authentication, is_tls, is_old, last_verdict}
-use Rattle.hosts.specs.Arguments.{Arguments, arguments_of, origin_of, address_of, lookup_of, offered_of, outcome_of}
+use Rattle.hosts.specs.Arguments.{Arguments, origin_of, address_of, lookup_of, offered_of, outcome_of, presented_in}
 use Rattle.hosts.specs.Call.{if_supplied, version_fits, codes_fit, clocks_fit, next_hops_fit, host_names_fit, answers_fit, certificates_fit, refused}
 
 -- the argument checks
@@ -59,21 +51,17 @@ certificate_codes_fit n paths =
     if_supplied (eqb n.certificates_given 1)
     (all yes_no (numbers paths) && yes_no n.trusted_root && yes_no n.common_name_given)
 
--- arguments of which only these parts are looked at
-abbrev pub first_part : Numbers → (next_hop expanded_next_hop host expanded paths : List ℕ) → Arguments
-first_part n next_hop expanded_next_hop host expanded paths = arguments_of n next_hop expanded_next_hop host expanded [] [] [] [] [] [] [] [] [] paths [] [] []
+-- a check that refuses
+abbrev pub refusing : ℕ → S.Result (Unit {0}) HostAnswer
+refusing n = S.Err (refused n)
 
-abbrev pub last_part : Numbers → (lengths1 records1 lengths2 records2 certificates certificate_lengths key_places digests paths dns_ids dns_id_lengths common_name : List ℕ) → Arguments
-last_part n lengths1 records1 lengths2 records2 certificates certificate_lengths key_places digests paths dns_ids dns_id_lengths common_name =
-    arguments_of n [] [] [] [] [] lengths1 records1 lengths2 records2 certificates certificate_lengths key_places digests paths dns_ids dns_id_lengths common_name
+-- the first refusal among 67, 62, 60, 61
+unfoldable pub first_refusal : Arguments → S.Result (Unit {0}) HostAnswer
+first_refusal a = cond (codes_fit a) (cond (clocks_fit a) (cond (next_hops_fit a) (cond (host_names_fit a) (S.Ok tt) (refusing 61)) (refusing 60)) (refusing 62)) (refusing 67)
 
--- the first refusal among 67, 62, 60, 61, or none
-unfoldable pub first_refusal : Arguments → Refusal
-first_refusal a = cond (codes_fit a) (cond (clocks_fit a) (cond (next_hops_fit a) (cond (host_names_fit a) F.None (F.Number 61)) (F.Number 60)) (F.Number 62)) (F.Number 67)
-
--- the first refusal among 64, 65, or none
-unfoldable pub last_refusal : Arguments → Refusal
-last_refusal a = cond (answers_fit a) (cond (certificates_fit a) F.None (F.Number 65)) (F.Number 64)
+-- the first refusal among 64, 65
+unfoldable pub last_refusal : Arguments → S.Result (Unit {0}) HostAnswer
+last_refusal a = cond (answers_fit a) (cond (certificates_fit a) (S.Ok tt) (refusing 65)) (refusing 64)
 
 -- the policy
 
@@ -92,9 +80,9 @@ policy_needs p fetched clock = eqb p.mode 1 && is_live fetched p.lifetime clock
 -- the TLSA answers
 
 -- what reading a TLSA answer comes to, where it is given
-unfoldable pub read_given : Option Answer → MaybeRead
-read_given none = NotGiven
-read_given (some a) = Is (read_of a)
+unfoldable pub read_given : Option Answer → S.Option Read
+read_given none = S.None
+read_given (some a) = S.Some (read_of a)
 
 -- a fact after the TLSA answers is given
 unfoldable pub later_given : (starttls handshake certificates_given : ℕ) → Bool
@@ -108,31 +96,35 @@ asking number n later = cond later (refused 66) (record { number = number; tlsa_
 abbrev pub saying : (number n : ℕ) → HostAnswer
 saying number n = record { number = number; tlsa_questions = n }
 
+-- the set that was found, or none; or the answer at which the walk ends
+abbrev pub Stage : Type 0
+Stage = S.Result Found HostAnswer
+
 -- no set, after n answers
 abbrev pub no_set : ℕ → Stage
-no_set n = S.Connect (record { needs = N.Nothing; expanded = false; second = false; questions = n })
+no_set n = S.Ok (record { needs = N.Nothing; expanded = false; second = false; questions = n })
 
 -- an answer that was read, at the expanded name or not, as the second or not, the n-th in all: 22; its set; or what is next
 unfoldable pub read_stage : (expanded second : Bool) (n : ℕ) (next : Stage) → Read → Stage
-read_stage expanded second n next R.LookupFailed = S.Answered (saying 22 n)
-read_stage expanded second n next (R.Taken d) = S.Connect (record { needs = d; expanded = expanded; second = second; questions = n })
+read_stage expanded second n next R.LookupFailed = S.Err (saying 22 n)
+read_stage expanded second n next (R.Taken d) = S.Ok (record { needs = d; expanded = expanded; second = second; questions = n })
 read_stage expanded second n next R.NextName = next
 
 -- the answer at the host name, read as the first or the second, with n read before it
 unfoldable pub host_read : (second : Bool) (n : ℕ) → Read → Stage
 host_read second n r = read_stage false second (n + 1) (no_set (n + 1)) r
 
-unfoldable pub at_host : (second : Bool) (n : ℕ) (later : Bool) → MaybeRead → Stage
-at_host second n later NotGiven = S.Answered (asking 14 n later)
-at_host second n later (Is r) = host_read second n r
+unfoldable pub at_host : (second : Bool) (n : ℕ) (later : Bool) → S.Option Read → Stage
+at_host second n later S.None = S.Err (asking 14 n later)
+at_host second n later (S.Some r) = host_read second n r
 
 -- the answer at the expanded name, which is the first, and then at the host name
-unfoldable pub expanded_read : (later : Bool) → MaybeRead → Read → Stage
+unfoldable pub expanded_read : (later : Bool) → S.Option Read → Read → Stage
 expanded_read later y r = read_stage true false 1 (at_host true 1 later y) r
 
-unfoldable pub at_expanded : (later_than_first later_than_second : Bool) → (first second : MaybeRead) → Stage
-at_expanded f s NotGiven y = S.Answered (asking 13 0 f)
-at_expanded f s (Is r) y = expanded_read s y r
+unfoldable pub at_expanded : (later_than_first later_than_second : Bool) → (first second : S.Option Read) → Stage
+at_expanded f s S.None y = S.Err (asking 13 0 f)
+at_expanded f s (S.Some r) y = expanded_read s y r
 
 -- the case of the names to try that belongs to each address result
 unfoldable pub tries_of : Address → Tries
@@ -145,63 +137,77 @@ tries_of Failed = AddressFailed
 tries_of NoAddress = AddressMissing
 
 -- the names to try
-unfoldable pub names_stage : Tries → (unlisted later_than_first later_than_second : Bool) → (first second : MaybeRead) → Stage
-names_stage AddressFailed u f s x y = S.Answered (saying 20 0)
-names_stage AddressMissing u f s x y = S.Answered (saying 21 0)
-names_stage NoName u f s x y = cond u (S.Answered (saying 23 0)) (no_set 0)
-names_stage HostOnly u f s x y = cond u (S.Answered (saying 23 0)) (at_host false 0 f x)
-names_stage ExpandedThenHost u f s x y = cond u (S.Answered (saying 23 0)) (at_expanded f s x y)
+unfoldable pub names_stage : Tries → (unlisted later_than_first later_than_second : Bool) → (first second : S.Option Read) → Stage
+names_stage AddressFailed u f s x y = S.Err (saying 20 0)
+names_stage AddressMissing u f s x y = S.Err (saying 21 0)
+names_stage NoName u f s x y = cond u (S.Err (saying 23 0)) (no_set 0)
+names_stage HostOnly u f s x y = cond u (S.Err (saying 23 0)) (at_host false 0 f x)
+names_stage ExpandedThenHost u f s x y = cond u (S.Err (saying 23 0)) (at_expanded f s x y)
 
 -- the connection
 
+-- the certificate facts are reached and given; or the answer at which the walk ends
+abbrev pub Connection : Type 0
+Connection = S.Result (Unit {0}) HostAnswer
+
 -- the handshake: an answer, or the certificate facts that are reached and given. d is what the set needs, e whether the MTA-STS check is needed
 unfoldable pub handshake_stage : ℕ → Needs → (e : Bool) → Option Handshake → (certificates_given : Bool) → Connection
-handshake_stage n d e none c = C.Answered (asking 11 n c)
-handshake_stage n d e (some failed) c = C.Answered (saying (cond (is_tls d || e) 25 1) n)
-handshake_stage n d e (some (established version)) c = cond (is_authentication d || e) (cond (is_old version) (C.Answered (saying 28 n)) (cond c C.Certificates (C.Answered (saying 12 n)))) (C.Answered (saying 2 n))
+handshake_stage n d e none c = S.Err (asking 11 n c)
+handshake_stage n d e (some failed) c = S.Err (saying (cond (is_tls d || e) 25 1) n)
+handshake_stage n d e (some (established version)) c = cond (is_authentication d || e) (cond (is_old version) (S.Err (saying 28 n)) (cond c (S.Ok tt) (S.Err (saying 12 n)))) (S.Err (saying 2 n))
 
 -- STARTTLS, then the handshake
 unfoldable pub connection : ℕ → Needs → (e : Bool) → Option Bool → Option Handshake → (certificates_given : Bool) → Connection
-connection n d e none m c = C.Answered (asking 10 n (is_given m || c))
-connection n d e (some false) m c = C.Answered (saying (cond (is_tls d || e) 24 1) n)
+connection n d e none m c = S.Err (asking 10 n (is_given m || c))
+connection n d e (some false) m c = S.Err (saying (cond (is_tls d || e) 24 1) n)
 connection n d e (some true) m c = handshake_stage n d e m c
 
+-- the name at which the set was found, and its records
+abbrev pub domain_of : Arguments → Found → List ℕ
+domain_of a f = cond f.expanded a.expanded a.host
+
+abbrev pub records_at : Arguments → Found → List (List ℕ)
+records_at a f = records_of (cond f.second a.lengths2 a.lengths1) (cond f.second a.records2 a.records1)
+
 -- the verdict at certificate facts; what is not needed is not looked at
-unfoldable pub certificate_verdict : Needs → (e : Bool) → Origin → (domain next_hop : List ℕ) (expanded_next_hop : Option (List ℕ)) (host lengths records : List ℕ) → Presented → ℕ
-certificate_verdict d e origin domain next_hop expanded_next_hop host lengths records p =
-    last_verdict (is_authentication d) e
-    (not (is_authentication d) || dane_passes (references origin domain next_hop expanded_next_hop) (records_of lengths records) p)
-    (not e || shows_host host p)
+unfoldable pub certificate_verdict : Arguments → Found → (e : Bool) → ℕ
+certificate_verdict a f e =
+    last_verdict (is_authentication f.needs) e
+    (not (is_authentication f.needs) || dane_passes (references (origin_of a.numbers.origin) (domain_of a f) a.next_hop (when (eqb a.numbers.expanded_next_hop_given 1) a.expanded_next_hop)) (records_at a f) (presented_in a))
+    (not e || shows_host a.host (presented_in a))
 
 -- an answer, or the verdict at certificate facts
 abbrev pub ended : ℕ → ℕ → Connection → HostAnswer
-ended n v (C.Answered x) = x
-ended n v C.Certificates = saying v n
+ended n v (S.Err x) = x
+ended n v (S.Ok u) = saying v n
 
 -- the answer from the connection on
-unfoldable pub found_answer : Numbers → (e : Bool) → Found → (domain next_hop expanded_next_hop host lengths records : List ℕ) → Presented → HostAnswer
-found_answer n e f domain next_hop expanded_next_hop host lengths records p =
-    ended f.questions (certificate_verdict f.needs e (origin_of n.origin) domain next_hop (when (eqb n.expanded_next_hop_given 1) expanded_next_hop) host lengths records p)
-    (connection f.questions f.needs e (offered_of n.starttls) (outcome_of n.handshake n.tls_version) (eqb n.certificates_given 1))
+unfoldable pub found_answer : Arguments → (e : Bool) → Found → HostAnswer
+found_answer a e f =
+    ended f.questions (certificate_verdict a f e)
+    (connection f.questions f.needs e (offered_of a.numbers.starttls) (outcome_of a.numbers.handshake a.numbers.tls_version) (eqb a.numbers.certificates_given 1))
 
 -- the walk
 
 -- the TLSA answers of a call
-unfoldable pub first_stage : Numbers → (unlisted : Bool) → (first second : MaybeRead) → Stage
-first_stage n u x y =
-    names_stage (tries_of (address_of n.address)) u
-    (leb 2 n.tlsa_answers || later_given n.starttls n.handshake n.certificates_given)
-    (later_given n.starttls n.handshake n.certificates_given) x y
+unfoldable pub first_stage : Arguments → (unlisted : Bool) → Stage
+first_stage a u =
+    names_stage (tries_of (address_of a.numbers.address)) u
+    (leb 2 a.numbers.tlsa_answers || later_given a.numbers.starttls a.numbers.handshake a.numbers.certificates_given)
+    (later_given a.numbers.starttls a.numbers.handshake a.numbers.certificates_given)
+    (read_given (when (leb 1 a.numbers.tlsa_answers) (answer_of (lookup_of a.numbers.tlsa1_result) a.lengths1 a.records1)))
+    (read_given (when (leb 2 a.numbers.tlsa_answers) (answer_of (lookup_of a.numbers.tlsa2_result) a.lengths2 a.records2)))
 
 -- an answer, or what follows from the set that was found
 abbrev pub reaching : (Found → HostAnswer) → Stage → HostAnswer
-reaching k (S.Answered x) = x
-reaching k (S.Connect f) = k f
+reaching k (S.Err x) = x
+reaching k (S.Ok f) = k f
 
 -- the answer of the walk. e and u: whether the MTA-STS check is needed, and whether no pattern then matches the host
-unfoldable pub walk_answer : Numbers → (e u : Bool) → (next_hop expanded_next_hop host expanded lengths1 records1 lengths2 records2 : List ℕ) → Presented → HostAnswer
-walk_answer n e u next_hop expanded_next_hop host expanded lengths1 records1 lengths2 records2 p =
-    reaching (λ f. found_answer n e f (cond f.expanded expanded host) next_hop expanded_next_hop host (cond f.second lengths2 lengths1) (cond f.second records2 records1) p)
-    (first_stage n u
-    (read_given (when (leb 1 n.tlsa_answers) (answer_of (lookup_of n.tlsa1_result) lengths1 records1)))
-    (read_given (when (leb 2 n.tlsa_answers) (answer_of (lookup_of n.tlsa2_result) lengths2 records2))))
+unfoldable pub walk_answer : Arguments → (e u : Bool) → HostAnswer
+walk_answer a e u = reaching (found_answer a e) (first_stage a u)
+
+-- the answer, whether the walk came to its end or ended before
+abbrev pub answer_of_walk : S.Result HostAnswer HostAnswer → HostAnswer
+answer_of_walk (S.Ok x) = x
+answer_of_walk (S.Err x) = x

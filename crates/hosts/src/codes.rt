@@ -1,33 +1,44 @@
 // The codes of the call's numbers.
 ghost use Rattle.std.specs.Prelude.{◌≡◌};
+ghost use Rattle.numbers.specs.Pieces.{pieces_in};
+ghost use Rattle.tlsa.specs.Answer.{answer_of, answer_fits, answer_in, answer_keeps};
 ghost use Rattle.hosts.specs.Arguments.{origin_of, address_of, is_alias, lookup_of};
 
 use certificates::Origin;
-use tlsa::{Address, Lookup};
+use numbers::Pieces;
+use tlsa::{Address, TlsaAnswer};
+
+// A number by which C passes a choice.
+#[derive(Clone, Copy)]
+pub struct Code(pub u64);
 
 // Where the host list came from.
-pub fn origin_of(code: u64) -> Origin
-    ensures { result ≡ origin_of code }
-{
-    match code {
-        1 => Origin::SecureMx,
-        2 => Origin::InsecureMx,
-        _ => Origin::NoMx,
+impl From<Code> for Origin {
+    ghost from_gives = { λ code origin. origin ≡ origin_of code.0 };
+
+    fn from(code: Code) -> Origin {
+        match code.0 {
+            1 => Origin::SecureMx,
+            2 => Origin::InsecureMx,
+            _ => Origin::NoMx,
+        }
     }
 }
 
 // The result of the lookup of the host's address.
-pub fn address_of(code: u64) -> Address
-    ensures { result ≡ address_of code }
-{
-    match code {
-        1 => Address::NoAliasSecure,
-        2 => Address::NoAliasInsecure,
-        3 => Address::AliasSecure,
-        4 => Address::AliasFirstStepSecure,
-        5 => Address::AliasFirstStepInsecure,
-        6 => Address::Failed,
-        _ => Address::NoAddress,
+impl From<Code> for Address {
+    ghost from_gives = { λ code address. address ≡ address_of code.0 };
+
+    fn from(code: Code) -> Address {
+        match code.0 {
+            1 => Address::NoAliasSecure,
+            2 => Address::NoAliasInsecure,
+            3 => Address::AliasSecure,
+            4 => Address::AliasFirstStepSecure,
+            5 => Address::AliasFirstStepInsecure,
+            6 => Address::Failed,
+            _ => Address::NoAddress,
+        }
     }
 }
 
@@ -35,25 +46,22 @@ pub fn address_of(code: u64) -> Address
 pub fn is_alias(address: Address) -> bool
     ensures { result ≡ is_alias address }
 {
-    match address {
-        Address::NoAliasSecure => false,
-        Address::NoAliasInsecure => false,
-        Address::AliasSecure => true,
-        Address::AliasFirstStepSecure => true,
-        Address::AliasFirstStepInsecure => true,
-        Address::Failed => false,
-        Address::NoAddress => false,
-    }
+    matches!(
+        address,
+        Address::AliasSecure | Address::AliasFirstStepSecure | Address::AliasFirstStepInsecure
+    )
 }
 
-// How a TLSA lookup ended.
-pub fn lookup_of(code: u64) -> Lookup
-    ensures { result ≡ lookup_of code }
+// A TLSA answer, by the code that says how its lookup ended.
+#[tactic(auto, using(crate::proofs::FactsOf::answer_of_laws))]
+pub fn answer_of(code: u64, records: Pieces<'_>) -> TlsaAnswer<'_>
+    ensures value { answer_in result ≡ answer_of (lookup_of code) records.entry.lengths.now records.entry.bytes.now }
+    ensures limits { answer_keeps result ≡ answer_fits (lookup_of code) records.entry.lengths.now records.entry.bytes.now }
 {
     match code {
-        1 => Lookup::Secure,
-        2 => Lookup::Insecure,
-        3 => Lookup::Absent,
-        _ => Lookup::Failed,
+        1 => TlsaAnswer::Secure(records),
+        2 => TlsaAnswer::Insecure,
+        3 => TlsaAnswer::Absent,
+        _ => TlsaAnswer::Failed,
     }
 }

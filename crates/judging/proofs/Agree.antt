@@ -1,4 +1,5 @@
 -- The two entries agree: the call answers as the plain one does on the facts read, and without a leaf as the plain one does with no names. Assumes nothing.
+use Rattle.std.specs.Prelude.{Option, None, Some, Ok}
 use Prim.Native.Nat.{ℕ}
 use mathlib.Core.Path.{◌≡◌, refl, sym, ap, ◌∙◌}
 use mathlib.Core.Bool.{Bool, true, false, cond}
@@ -8,9 +9,8 @@ use Rattle.certificates.specs.Limits.{yes_no}
 use Rattle.hosts.specs.declared.HostAnswer.{HostAnswer}
 use Rattle.hosts.specs.Arguments.{Arguments, facts_of}
 use Rattle.hosts.specs.Call.{codes_fit, clocks_fit, next_hops_fit, host_names_fit, policy_fits, answers_fit, certificates_fit, checks, checked, refused, walked, host_answer}
-use Rattle.x509.specs.declared.Name.{Name}
 use Rattle.x509.specs.declared.Found.{Found}
-use Rattle.leaf.specs.declared.Reading.{Reading}
+use Rattle.x509.specs.declared.Part.{Part}
 use Rattle.leaf.specs.Read.{read_leaf}
 use Rattle.judging.specs.Texts.{given_of}
 use Rattle.judging.specs.Judging.{has_leaf, leaf_of, on_read, chain_keeps, read_answer, chain_answer, checks_before, certificate_answer}
@@ -35,10 +35,10 @@ unfolding host_answer checks
 last_apart a = refl
 
 -- a code for the common name that is read is one of its choices
-given_fits : (name : Name) → yes_no (given_of name) ≡ true
+given_fits : (name : Option Part) → yes_no (given_of name) ≡ true
 unfolding yes_no given_of
-given_fits (Name.Given p) = refl
-given_fits Name.Absent = refl
+given_fits (Some p) = refl
+given_fits None = refl
 
 -- the facts read change none of the checks before 65
 same_before : (a : Arguments) (leaf : List ℕ) (f : Found) → yes_no a.numbers.common_name_given ≡ true → checks_before (on_read a leaf f) ≡ checks_before a
@@ -46,7 +46,7 @@ unfolding checks on_read codes_fit clocks_fit next_hops_fit host_names_fit polic
 same_before a leaf f y = rw (given_fits f.name, y)
 
 -- the certificates keep the limits and the leaf is read: the call answers as the plain one on the facts read
-module _ (a : Arguments) (leaf : has_leaf a ≡ true) (chain : chain_keeps a ≡ true) (f : Found) (is_read : read_leaf (leaf_of a) ≡ Reading.Is f) where
+module _ (a : Arguments) (leaf : has_leaf a ≡ true) (chain : chain_keeps a ≡ true) (f : Found) (is_read : read_leaf (leaf_of a) ≡ Ok f) where
   pub on_read_lem : certificate_answer a ≡ checked (checks_before a) (host_answer (on_read a (leaf_of a) f))
   unfolding certificate_answer chain_answer read_answer
   on_read_lem = rw (leaf, chain, is_read)

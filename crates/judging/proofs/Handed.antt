@@ -1,6 +1,8 @@
 -- What the plain call is handed of the leaf: its DNS-IDs in order, its common name and its key. Assumes nothing.
+use Rattle.std.specs.Prelude as Std
+use Rattle.std.specs.Prelude.{None, Some, Ok}
 use Prim.Native.Nat.{ℕ, ◌-◌, ◌/◌, ◌%◌, ◌^◌, ◌<◌, ◌≤◌}
-use mathlib.Core.Path.{◌≡◌, refl}
+use mathlib.Core.Path.{◌≡◌, refl, ap, ◌∙◌}
 use mathlib.Core.Bool.{true}
 use mathlib.Core.List.{List, [], ◌∷◌, ◌++◌, map, flatten}
 use mathlib.Core.Option.{Option, none, some}
@@ -17,9 +19,7 @@ use Rattle.numbers.proofs.Written.{lengths_of, pieces_back, pieces_sum}
 use Rattle.certificates.specs.Facts.{presented_of, common_name_of}
 use Rattle.hosts.specs.Arguments.{Arguments, presented_in}
 use Rattle.x509.specs.declared.Part.{Part}
-use Rattle.x509.specs.declared.Name.{Name}
 use Rattle.x509.specs.declared.Found.{Found}
-use Rattle.leaf.specs.declared.Reading.{Reading}
 use Rattle.leaf.specs.Names.{dns_ids_of, each_as}
 use Rattle.leaf.specs.Read.{read_leaf}
 use Rattle.leaf.proofs.Sound.{Ordered, read_sound, ids_in_order}
@@ -35,10 +35,15 @@ ordered_far at (p ∷ ps) end o = omega (arith, o.0, o.1.0, ordered_far p.end ps
 part_front : (s : List ℕ) (end : ℕ) (p : Part) → p.end ≤ end → part_of (take end s) p ≡ part_of s p
 part_front s end p h = rw (drop_take p.start end s) (take-take (p.end - p.start) (end - p.start) (drop p.start s) (omega arith))
 
-texts_are : (s : List ℕ) (at : ℕ) (ps : List Part) (end : ℕ) → Ordered at ps end → each_as (part_of (take end s)) ps ≡ flatten (map (part_of s) ps)
-unfolding each_as Ordered flatten
-texts_are s at [] end o = refl
-texts_are s at (p ∷ ps) end o = rw (part_front s end p (ordered_far p.end ps end o.1.1), texts_are s p.end ps end o.1.1)
+parts_same : (s : List ℕ) (at : ℕ) (ps : List Part) (end : ℕ) → Ordered at ps end → map (part_of (take end s)) ps ≡ map (part_of s) ps
+unfolding Ordered
+parts_same s at [] end o = refl
+parts_same s at (p ∷ ps) end o = rw (part_front s end p (ordered_far p.end ps end o.1.1), parts_same s p.end ps end o.1.1)
+
+each_flat : (f : Part → List ℕ) (ps : List Part) → each_as f ps ≡ flatten (map f ps)
+unfolding each_as flatten
+each_flat f [] = refl
+each_flat f (p ∷ ps) = rw (each_flat f ps)
 
 sizes_are : (s : List ℕ) (at : ℕ) (ps : List Part) (end : ℕ) → Ordered at ps end → end ≤ length s → each_as length_of ps ≡ lengths_of (map (part_of s) ps)
 unfolding each_as Ordered written
@@ -59,15 +64,15 @@ abbrev pub names_of : List ℕ → Found → List (List ℕ)
 names_of s f = map (part_of s) (dns_ids_of s f)
 
 -- the common name of the leaf as a text, or none
-unfoldable pub common_name_read : List ℕ → Name → Option (List ℕ)
-common_name_read s (Name.Given p) = some (part_of s p)
-common_name_read s Name.Absent = none
+unfoldable pub common_name_read : List ℕ → Std.Option Part → Option (List ℕ)
+common_name_read s (Some p) = some (part_of s p)
+common_name_read s None = none
 
-module _ (s : List ℕ) (f : Found) (is_read : read_leaf s ≡ Reading.Is f) where
+module _ (s : List ℕ) (f : Found) (is_read : read_leaf s ≡ Ok f) where
   -- the text is the DNS-IDs one after another, and the list that of their lengths
   pub names_are : names_text s f ≡ flatten (names_of s f)
   unfolding names_text
-  names_are = texts_are s f.alternatives.start (dns_ids_of s f) f.alternatives.end (ids_in_order s f is_read)
+  names_are = each_flat (part_of (take f.alternatives.end s)) (dns_ids_of s f) ∙ ap flatten (parts_same s f.alternatives.start (dns_ids_of s f) f.alternatives.end (ids_in_order s f is_read))
 
   pub lengths_are : lengths_text s f ≡ lengths_of (names_of s f)
   unfolding lengths_text
@@ -83,13 +88,13 @@ module _ (s : List ℕ) (f : Found) (is_read : read_leaf s ≡ Reading.Is f) whe
     pub names_sum : sums_to (lengths_text s f) (length (names_text s f)) ≡ true
     names_sum = rw (names_are, lengths_are) (pieces_sum (length s) (omega arith) (names_of s f) fit)
 
-pub name_back : (s : List ℕ) (name : Name) → common_name_of (eqb (given_of name) 1) (common_name_in s name) ≡ common_name_read s name
+pub name_back : (s : List ℕ) (name : Std.Option Part) → common_name_of (eqb (given_of name) 1) (common_name_in s name) ≡ common_name_read s name
 unfolding given_of common_name_in common_name_read
-name_back s (Name.Given p) = refl
-name_back s Name.Absent = refl
+name_back s (Some p) = refl
+name_back s None = refl
 
 -- the certificate facts of the plain call on the facts read have the leaf's DNS-IDs, in order, none lost and none twice, and its common name
-module _ (a : Arguments) (f : Found) (is_read : read_leaf (leaf_of a) ≡ Reading.Is f) where
+module _ (a : Arguments) (f : Found) (is_read : read_leaf (leaf_of a) ≡ Ok f) where
   pub handed_names : length (leaf_of a) ≤ 16384 → (presented_in (on_read a (leaf_of a) f)).dns_ids ≡ names_of (leaf_of a) f
   unfolding presented_in presented_of on_read
   handed_names short = names_back (leaf_of a) f is_read short

@@ -1,9 +1,11 @@
+pub mod Put
 pub mod Texts
 pub mod Read
 pub mod Chain
 pub mod Order
 pub mod Agree
 pub mod Handed
+pub mod Pieces
 pub mod OnlyNames
 pub mod Exactly
 pub mod Returns

@@ -1,4 +1,5 @@
 -- Where the certificates keep the limits and the leaf is read, 65 is for names: a DNS-ID or the common name has over 255 bytes. Assumes nothing.
+use Rattle.std.specs.Prelude.{Ok}
 use Prim.Native.Nat.{ℕ, suc, ◌+◌, ◌-◌, ◌*◌, ◌<◌, ◌≤◌}
 use mathlib.Core.Path.{◌≡◌, refl, sym, ◌∙◌}
 use mathlib.Core.Bool.{Bool, true, false, ◌&&◌, and-false}
@@ -17,7 +18,6 @@ use Rattle.certificates.proofs.Limits.{certificates_count, total_is}
 use Rattle.hosts.specs.Arguments.{Arguments}
 use Rattle.hosts.specs.Call.{codes_fit, clocks_fit, next_hops_fit, host_names_fit, policy_fits, answers_fit, certificates_fit, checks}
 use Rattle.x509.specs.declared.Found.{Found}
-use Rattle.leaf.specs.declared.Reading.{Reading}
 use Rattle.leaf.specs.Names.{dns_ids_of}
 use Rattle.leaf.specs.Read.{read_leaf}
 use Rattle.leaf.proofs.Sound.{read_sound}
@@ -81,7 +81,7 @@ choice_given a leaf e = go (yes_no a.numbers.common_name_given) refl
     go true q = refl
     go false q = apart (sym (unfit q) ∙ e)
 
-module _ (a : Arguments) (leaf : has_leaf a ≡ true) (chain : chain_keeps a ≡ true) (f : Found) (is_read : read_leaf (leaf_of a) ≡ Reading.Is f) where
+module _ (a : Arguments) (leaf : has_leaf a ≡ true) (chain : chain_keeps a ≡ true) (f : Found) (is_read : read_leaf (leaf_of a) ≡ Ok f) where
   pub leaf_short : length (leaf_of a) ≤ 16384
   unfolding chain_keeps leaf_of
   leaf_short = chain_leaf a.certificates a.certificate_lengths (written (0 ∷ 0 ∷ []) ++ a.key_places) a.digests a.paths (leaf_counts a leaf) chain

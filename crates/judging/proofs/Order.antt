@@ -1,4 +1,5 @@
 -- The order of refusals, spelled out: the plain call's before 65; 65 for the certificates; 90 and 91 for the leaf. Assumes nothing.
+use Rattle.std.specs.Prelude.{Err}
 use Prim.Native.Nat.{ℕ, ◌<◌}
 use mathlib.Core.Path.{◌≡◌, refl}
 use mathlib.Core.Bool.{Bool, true, false, cond, not}
@@ -15,7 +16,8 @@ use Rattle.policies.proofs.Sanity.{policy_number_lem}
 use Rattle.certificates.specs.Limits.{facts_fit}
 use Rattle.hosts.specs.Arguments.{Arguments}
 use Rattle.hosts.specs.Call.{codes_fit, clocks_fit, next_hops_fit, host_names_fit, policy_fits, answers_fit, certificates_fit, checks, checked, refused, host_answer}
-use Rattle.leaf.specs.declared.Reading.{Reading}
+use Rattle.der.specs.declared.Fault.{Fault}
+use Rattle.leaf.specs.declared.ReadError.{ReadError}
 use Rattle.leaf.specs.Read.{read_leaf}
 use Rattle.judging.specs.Judging.{is_present, has_leaf, leaf_of, chain_keeps, read_answer, chain_answer, checks_before, certificate_answer}
 use Rattle.judging.specs.Stages.{unplaced, refused_after}
@@ -107,11 +109,11 @@ module _ (a : Arguments) (leaf : has_leaf a ≡ true) where
 
               module _ (chain : chain_keeps a ≡ true) where
                 -- 90: a fault in the leaf, wherever it is
-                pub refused_90 : (o : ℕ) → read_leaf (leaf_of a) ≡ Reading.Fault o → certificate_answer a ≡ record { number = 90; tlsa_questions = 0 }
+                pub refused_90 : (o : Fault) → read_leaf (leaf_of a) ≡ Err (ReadError.Malformed o) → certificate_answer a ≡ record { number = 90; tlsa_questions = 0 }
                 unfolding certificate_answer checks chain_answer read_answer
                 refused_90 o e = rw (leaf, codes, clocks, next_hops, host, policy, answers, chain, e)
 
                 -- 91: over 64 DNS-IDs
-                pub refused_91 : read_leaf (leaf_of a) ≡ Reading.ManyDnsIds → certificate_answer a ≡ record { number = 91; tlsa_questions = 0 }
+                pub refused_91 : read_leaf (leaf_of a) ≡ (Err ReadError.ManyDnsIds) → certificate_answer a ≡ record { number = 91; tlsa_questions = 0 }
                 unfolding certificate_answer checks chain_answer read_answer
                 refused_91 e = rw (leaf, codes, clocks, next_hops, host, policy, answers, chain, e)

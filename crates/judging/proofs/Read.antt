@@ -1,4 +1,5 @@
 -- What is known of a leaf that is read: its key lies inside it, and its names have room. Assumes nothing.
+use Rattle.std.specs.Prelude.{Ok}
 use Prim.Native.Nat.{ℕ, zero, suc, ◌-◌, ◌≤◌}
 use mathlib.Core.Path.{◌≡◌}
 use mathlib.Core.List.{List, [], ◌∷◌}
@@ -6,7 +7,6 @@ use native.Mathlib.Omega.{arith}
 use lib.ListN.{length, take, drop, length-append}
 use Rattle.x509.specs.declared.Part.{Part}
 use Rattle.x509.specs.declared.Found.{Found}
-use Rattle.leaf.specs.declared.Reading.{Reading}
 use Rattle.leaf.specs.Names.{dns_ids_of, each_as}
 use Rattle.leaf.specs.Read.{read_leaf}
 use Rattle.leaf.proofs.Writing.{each_length}
@@ -26,7 +26,7 @@ unfolding each_as total_of
 texts_short s [] = omega arith
 texts_short s (p ∷ ps) = omega (arith, length-append (part_of s p) (each_as (part_of s) ps), take_short (p.end - p.start) (drop p.start s), texts_short s ps)
 
-module _ (s : List ℕ) (f : Found) (is_read : read_leaf s ≡ Reading.Is f) where
+module _ (s : List ℕ) (f : Found) (is_read : read_leaf s ≡ Ok f) where
   pub key_order : f.key.start ≤ f.key.end
   key_order = omega (arith, (read_sound s f is_read).key.0)
 

@@ -24,7 +24,7 @@ use Rattle.der.specs.Header.{value_of, long_size, short_size, headed, header, is
 use Rattle.der.specs.Elements.{with_head, elements_from, elements}
 use Rattle.der.specs.Walk as Der
 use Rattle.x509.specs.Fields.{is_of, tagged, holds, or_else, noting, string_name, built_name, expects, may_end}
-use Rattle.x509.specs.Walk.{noted, and_then, at_end, run_from, walk_run, met_as, met_by, met, passing, leaving, walk_met, opened, walk_element, walk_certificate}
+use Rattle.x509.specs.Walk.{noted, and_then, at_end, run_from, walk_run, passing, leaving, walk_in, walk_met, opened, walk_element, walk_certificate}
 use Rattle.x509.specs.Found.{whole_of, contents_of, whole_at, contents_at, name_at, alternatives_at, found_at, fields_by, fields_of}
 use Rattle.leaf.specs.Names.{dns_names, dns_ids_from, dns_ids_of, each_as}
 use Rattle.leaf.specs.Read.{reading_of, read_leaf}
@@ -105,5 +105,5 @@ pub worked :
     ∷ says 65 0
     ∷ says 12 1
     ∷ []
-unfolding all any lower_of agree same_byte same_letter index_of split to_first numbers is_whole sum written cut sums_to up_to numbered label_byte is_label is_name is_starred is_wildcard is_pattern matches_name is_reading short is_usage is_selector data_fits usable is_sha512 ignored answer_of set_fits answer_fits needs_of taken_of read_of certificate_at certificates_of presented_of certificate_fits total_of chain_keeps_limits common_name_fits names_keep_limits keeps_limits one_for_each chain_fits names_fit facts_fit yes_no by_type compared matches_certificate matches_on_path record_matches further_reference references leaf_names names_reference dane_passes shows_host is_old needs_mta_sts is_listed mta_sts_passes rules base_of presented_in facts_of codes_fit clocks_fit next_hops_fit host_names_fit policy_fits answers_fit certificates_fit checks host_answer value_of long_size short_size headed header is_constructed with_head elements_from elements Der.and_then Der.run_from Der.walk_run Der.walk_contents Der.opened Der.walk_element is_of tagged holds or_else noting string_name built_name expects may_end noted and_then at_end run_from walk_run met_as met_by met passing leaving walk_met opened walk_element walk_certificate whole_of contents_of whole_at contents_at name_at alternatives_at found_at fields_by fields_of dns_names dns_ids_from dns_ids_of each_as reading_of read_leaf names_text lengths_text given_of common_name_in is_present has_leaf leaf_of on_read chain_keeps read_answer chain_answer certificate_answer
+unfolding all any lower_of agree same_byte same_letter index_of split to_first numbers is_whole sum written cut sums_to up_to numbered label_byte is_label is_name is_starred is_wildcard is_pattern matches_name is_reading short is_usage is_selector data_fits usable is_sha512 ignored answer_of set_fits answer_fits needs_of taken_of read_of certificate_at certificates_of presented_of certificate_fits total_of chain_keeps_limits common_name_fits names_keep_limits keeps_limits one_for_each chain_fits names_fit facts_fit yes_no by_type compared matches_certificate matches_on_path record_matches further_reference references leaf_names names_reference dane_passes shows_host is_old needs_mta_sts is_listed mta_sts_passes rules base_of presented_in facts_of codes_fit clocks_fit next_hops_fit host_names_fit policy_fits answers_fit certificates_fit checks host_answer value_of long_size short_size headed header is_constructed with_head elements_from elements Der.and_then Der.run_from Der.walk_run Der.walk_contents Der.opened Der.walk_element is_of tagged holds or_else noting string_name built_name expects may_end noted and_then at_end run_from walk_run passing leaving walk_in walk_met opened walk_element walk_certificate whole_of contents_of whole_at contents_at name_at alternatives_at found_at fields_by fields_of dns_names dns_ids_from dns_ids_of each_as reading_of read_leaf names_text lengths_text given_of common_name_in is_present has_leaf leaf_of on_read chain_keeps read_answer chain_answer certificate_answer
 worked = refl

@@ -1,6 +1,6 @@
 -- Document 02, No. 7: "The plain entry with the relay's own facts stays; the new one answers as it does on the facts read." Its arguments are those of the plain call with no
 -- names of the leaf, and with key places for the certificates after the leaf only.
-use Rattle.std.specs.Prelude.{ℕ, Bool, cond, ◌&&◌, List, [], ◌∷◌, ◌++◌, eqb, ltb, length, get_or, take}
+use Rattle.std.specs.Prelude.{ℕ, Bool, cond, ◌&&◌, List, [], ◌∷◌, ◌++◌, eqb, ltb, length, get_or, take, Result, Ok, Err}
 use Rattle.lists.specs.Check.{Check}
 use Rattle.numbers.specs.Numbers.{numbers, written}
 use Rattle.certificates.specs.Limits.{chain_fits}
@@ -9,8 +9,8 @@ use Rattle.hosts.specs.declared.Numbers.{Numbers}
 use Rattle.hosts.specs.Arguments.{Arguments, arguments_of}
 use Rattle.hosts.specs.Call.{checks, checked, refused, host_answer}
 use Rattle.x509.specs.declared.Found.{Found}
-use Rattle.leaf.specs.declared.Reading.{Reading}
-use Rattle.leaf.specs.declared.Reading.TheVariants.{Fault, ManyDnsIds, Is}
+use Rattle.leaf.specs.declared.ReadError.{ReadError}
+use Rattle.leaf.specs.declared.ReadError.TheVariants.{Malformed, ManyDnsIds}
 use Rattle.leaf.specs.Read.{read_leaf}
 use Rattle.judging.specs.Texts.{place_of, names_text, lengths_text, given_of, common_name_in}
 
@@ -52,6 +52,10 @@ with_leaf a given key_places dns_ids dns_id_lengths common_name =
     arguments_of (with_given given a.numbers) a.next_hop a.expanded_next_hop a.host a.expanded a.body a.lengths1 a.records1 a.lengths2 a.records2
     a.certificates a.certificate_lengths key_places a.digests a.paths dns_ids dns_id_lengths common_name
 
+-- the arguments with no names of the leaf
+abbrev pub nameless : Arguments → Arguments
+nameless a = with_leaf a 2 a.key_places [] [] []
+
 -- the plain call's arguments on the facts read: the leaf's key place before those of the other certificates, its DNS-IDs and its common name
 unfoldable pub on_read : Arguments → List ℕ → Found → Arguments
 on_read a leaf f = with_leaf a (given_of f.name) (place_of f.key ++ a.key_places) (names_text leaf f) (lengths_text leaf f) (common_name_in leaf f.name)
@@ -61,10 +65,10 @@ unfoldable pub chain_keeps : Arguments → Bool
 chain_keeps a = chain_fits a.certificates a.certificate_lengths (written (0 ∷ 0 ∷ []) ++ a.key_places) a.digests a.paths
 
 -- 90 and 91 for the leaf, else the plain call's answer on the facts read, where 65 is for names
-unfoldable pub read_answer : Arguments → Reading → HostAnswer
-read_answer a (Fault o) = refused 90
-read_answer a ManyDnsIds = refused 91
-read_answer a (Is f) = host_answer (on_read a (leaf_of a) f)
+unfoldable pub read_answer : Arguments → Result Found ReadError → HostAnswer
+read_answer a (Err (Malformed o)) = refused 90
+read_answer a (Err ManyDnsIds) = refused 91
+read_answer a (Ok f) = host_answer (on_read a (leaf_of a) f)
 
 -- "There 90 and 91 stand between 65 for the certificates and 65 for names"
 unfoldable pub chain_answer : Arguments → HostAnswer

@@ -1,9 +1,7 @@
 -- The facts read of the leaf as the plain call takes them: the key's place, the DNS-IDs one after another, the list of their lengths, and the common name.
-use Rattle.std.specs.Prelude.{ℕ, ◌-◌, List, [], ◌∷◌, take, drop}
+use Rattle.std.specs.Prelude.{ℕ, ◌-◌, List, [], ◌∷◌, take, drop, Option, None, Some}
 use Rattle.numbers.specs.Numbers.{written}
 use Rattle.x509.specs.declared.Part.{Part}
-use Rattle.x509.specs.declared.Name.{Name}
-use Rattle.x509.specs.declared.Name.TheVariants.{Given, Absent}
 use Rattle.x509.specs.declared.Found.{Found}
 use Rattle.leaf.specs.Names.{dns_ids_of, each_as}
 
@@ -28,11 +26,11 @@ unfoldable pub lengths_text : List ℕ → Found → List ℕ
 lengths_text s found = each_as length_of (dns_ids_of s found)
 
 -- common_name_given: 1 a name, 2 none
-unfoldable pub given_of : Name → ℕ
-given_of (Given p) = 1
-given_of Absent = 2
+unfoldable pub given_of : Option Part → ℕ
+given_of (Some p) = 1
+given_of None = 2
 
 -- the common name's bytes, or none
-unfoldable pub common_name_in : List ℕ → Name → List ℕ
-common_name_in s (Given p) = part_of s p
-common_name_in s Absent = []
+unfoldable pub common_name_in : List ℕ → Option Part → List ℕ
+common_name_in s (Some p) = part_of s p
+common_name_in s None = []

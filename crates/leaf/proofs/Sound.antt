@@ -1,4 +1,5 @@
 -- What is known of a certificate that is read, and of its DNS-IDs. Assumes nothing.
+use Rattle.std.specs.Prelude.{Option, None, Some, Result, Ok, Err}
 use Prim.Native.Nat.{ℕ, zero, suc, ◌+◌, ◌-◌, ◌<◌, ◌≤◌}
 use mathlib.Core.Path.{◌≡◌, refl, sym, ap, subst, ◌∙◌}
 use mathlib.Core.Bool.{Bool, true, false, cond, ◌&&◌}
@@ -11,8 +12,6 @@ use lib.Seq.{length-take-le}
 use Rattle.lists.specs.Bytes.{all}
 use Rattle.lists.proofs.Bools.{never}
 use Rattle.der.specs.declared.Head.{Head}
-use Rattle.der.specs.declared.Header.{Header}
-use Rattle.der.specs.declared.Walk.{Walk}
 use Rattle.der.specs.Header.{header, is_constructed}
 use Rattle.der.specs.Elements.{elements}
 use Rattle.der.specs.Walk as Der
@@ -20,35 +19,33 @@ use Rattle.der.proofs.Heads.{opens_bounds, end_inside}
 use Rattle.der.proofs.Elements.{elements_end, elements_next}
 use Rattle.der.proofs.Walks.{element_steps, run_goes, run_stops, walk_ends}
 use Rattle.der.proofs.Longer.{opens_longer}
+use Rattle.der.specs.declared.Fault.{Fault}
 use Rattle.x509.specs.declared.Part.{Part}
-use Rattle.x509.specs.declared.Name.{Name}
 use Rattle.x509.specs.declared.Noted.{Noted}
 use Rattle.x509.specs.declared.Found.{Found}
-use Rattle.x509.specs.declared.Fields.{Fields}
-use Rattle.x509.specs.declared.RunWalk.{RunWalk}
 use Rattle.x509.specs.Walk.{walk_certificate}
 use Rattle.x509.specs.Found.{nothing, whole_of, contents_of, whole_at, contents_at, name_at, alternatives_at, found_at, fields_of}
 use Rattle.x509.proofs.Whole.{accepted_plain, fields_walk}
 use Rattle.x509.proofs.Notes.{Stands, Sequence, stands_inside, noted_opens}
-use Rattle.leaf.specs.declared.Reading.{Reading}
+use Rattle.leaf.specs.declared.ReadError.{ReadError}
 use Rattle.leaf.specs.Names.{dns_name, contents, dns_names, dns_ids_from, dns_ids_of}
 use Rattle.leaf.specs.Read.{reading_of, read_leaf}
 
 -- Elements lie one after another in s, with no byte between them, from one place to another: the first begins at the one, each next one where the one before ends, and the last ends at the other.
 unfoldable pub Tiles : List ℕ → ℕ → List Head → ℕ → Type 0
 Tiles s at [] end = at ≡ end
-Tiles s at (h ∷ hs) end = (header at (drop at s) ≡ Header.Opens h) × Tiles s h.end hs end
+Tiles s at (h ∷ hs) end = (header at (drop at s) ≡ Some h) × Tiles s h.end hs end
 
 -- where X.690's walk accepts a run of elements, they lie so to its end
-walk_past : (n : ℕ) (w : Walk) → w ≡ Walk.Past n → {A : Type 0} (o : ℕ) → w ≡ Walk.Fault o → A
+walk_past : (n : ℕ) (w : Result ℕ Fault) → w ≡ Ok n → {A : Type 0} (o : Fault) → w ≡ Err o → A
 walk_past n w e o f = never cc
 
-opened_header : {A : Type 0} (walk : Der.Walker) (s : List ℕ) (at : ℕ) (d : Header) (n : ℕ) → Der.opened walk s at d ≡ Walk.Past n → ((h : Head) → d ≡ Header.Opens h → A) → A
+opened_header : {A : Type 0} (walk : Der.Walker) (s : List ℕ) (at : ℕ) (d : Option Head) (n : ℕ) → Der.opened walk s at d ≡ Ok n → ((h : Head) → d ≡ Some h → A) → A
 unfolding Der.opened
-opened_header walk s at Header.NoHeader n e k = never cc
-opened_header walk s at (Header.Opens h) n e k = k h refl
+opened_header walk s at None n e k = never cc
+opened_header walk s at (Some h) n e k = k h refl
 
-element_header : {A : Type 0} (levels : ℕ) (s : List ℕ) (at n : ℕ) → Der.walk_element levels s at ≡ Walk.Past n → ((h : Head) → header at (drop at s) ≡ Header.Opens h → A) → A
+element_header : {A : Type 0} (levels : ℕ) (s : List ℕ) (at n : ℕ) → Der.walk_element levels s at ≡ Ok n → ((h : Head) → header at (drop at s) ≡ Some h → A) → A
 unfolding Der.walk_element
 element_header zero s at n e k = never cc
 element_header (suc levels) s at n e k = opened_header (Der.walk_run (Der.walk_element levels)) s at (header at (drop at s)) n e k
@@ -57,25 +54,25 @@ tiles_over : (s : List ℕ) (i : ℕ) → length s ≤ i → i ≤ length s → 
 unfolding Tiles
 tiles_over s i h k = rw (elements_end s i h) (omega (arith, h, k))
 
-tiles_on : (s : List ℕ) (i : ℕ) → i < length s → (h : Head) → header i (drop i s) ≡ Header.Opens h → Tiles s h.end (elements s h.end) (length s) → Tiles s i (elements s i) (length s)
+tiles_on : (s : List ℕ) (i : ℕ) → i < length s → (h : Head) → header i (drop i s) ≡ Some h → Tiles s h.end (elements s h.end) (length s) → Tiles s i (elements s i) (length s)
 unfolding Tiles
-tiles_on s i more h o t = rw (elements_next s i more (Header.Opens h) (sym o) h refl) (o, t)
+tiles_on s i more h o t = rw (elements_next s i more (Some h) (sym o) h refl) (o, t)
 
-run_tiles : (left levels : ℕ) (s : List ℕ) (i n : ℕ) → length s - i ≤ left → i ≤ length s → Der.walk_run (Der.walk_element levels) s i ≡ Walk.Past n → Tiles s i (elements s i) (length s)
+run_tiles : (left levels : ℕ) (s : List ℕ) (i n : ℕ) → length s - i ≤ left → i ≤ length s → Der.walk_run (Der.walk_element levels) s i ≡ Ok n → Tiles s i (elements s i) (length s)
 run_tiles zero levels s i n l k e = tiles_over s i (omega (arith, l)) k
 run_tiles (suc left) levels s i n l k e =
     go (λ h m j f. run_tiles left levels s h.end n (omega (arith, l, m)) j f) (ltb i (length s)) refl (Der.walk_element levels s i) refl
   where
-    go : ((h : Head) → i < h.end → h.end ≤ length s → Der.walk_run (Der.walk_element levels) s h.end ≡ Walk.Past n → Tiles s h.end (elements s h.end) (length s))
-        → (b : Bool) → ltb i (length s) ≡ b → (w : Walk) → Der.walk_element levels s i ≡ w → Tiles s i (elements s i) (length s)
+    go : ((h : Head) → i < h.end → h.end ≤ length s → Der.walk_run (Der.walk_element levels) s h.end ≡ Ok n → Tiles s h.end (elements s h.end) (length s))
+        → (b : Bool) → ltb i (length s) ≡ b → (w : Result ℕ Fault) → Der.walk_element levels s i ≡ w → Tiles s i (elements s i) (length s)
     go ih false q w f = tiles_over s i (ltb-false i (length s) q) k
-    go ih true q (Walk.Fault o) f = walk_past n (Der.walk_run (Der.walk_element levels) s i) e o (run_stops (Der.walk_element levels) s i (ltb-true i (length s) q) o f)
-    go ih true q (Walk.Past next) f =
+    go ih true q (Err o) f = walk_past n (Der.walk_run (Der.walk_element levels) s i) e o (run_stops (Der.walk_element levels) s i (ltb-true i (length s) q) o f)
+    go ih true q (Ok next) f =
         let more = ltb-true i (length s) q in
         element_header levels s i next f (λ h o.
         let b = opens_bounds i (drop i s) h o in
         let z : Der.walk_run (Der.walk_element levels) s h.end ≡ Der.walk_run (Der.walk_element levels) s next = ap (λ (x : ℕ). Der.walk_run (Der.walk_element levels) s x) (sym (walk_ends levels s i next h o f)) in
-        tiles_on s i more h o (ih h (omega (arith, b.0, b.1.0)) (end_inside s i (Header.Opens h) h (sym o) refl) (z ∙ sym (run_goes (Der.walk_element levels) s i more (element_steps levels) next f) ∙ e)))
+        tiles_on s i more h o (ih h (omega (arith, b.0, b.1.0)) (end_inside s i (Some h) h (sym o) refl) (z ∙ sym (run_goes (Der.walk_element levels) s i more (element_steps levels) next f) ∙ e)))
 
 -- they lie so in each list that begins with that one
 tiles_longer : (s t : List ℕ) (at : ℕ) (hs : List Head) (end : ℕ) → Tiles s at hs end → Tiles (s ++ t) at hs end
@@ -88,7 +85,7 @@ unfolding Tiles
 tiles_far s at [] end e = omega (arith, e)
 tiles_far s at (h ∷ hs) end e = let b = opens_bounds at (drop at s) h e.0 in omega (arith, b.0, b.1.0, tiles_far s h.end hs end e.1)
 
-same_head : (h k : Head) → Header.Opens h ≡ Header.Opens k → h ≡ k
+same_head : (h k : Head) → Some h ≡ Some k → h ≡ k
 same_head h k e = cc
 
 -- Only one list of elements lies so between two places.
@@ -157,12 +154,12 @@ pub record OneSequence (s : List ℕ) (p : Part) : Type 0 where
 -- What is known of a certificate that is read.
 pub record Sound (s : List ℕ) (f : Found) : Type 0 where
   -- X.690's own walk accepts it, 16 levels deep, as one element that is all of its bytes
-  pub plain : Der.walk_element 16 s 0 ≡ Walk.Past (length s)
+  pub plain : Der.walk_element 16 s 0 ≡ Ok (length s)
   -- the key's part is one SEQUENCE with its header; it is not empty, and it lies inside the certificate
   pub key_element : OneSequence s f.key
   pub key : (f.key.start < f.key.end) × (f.key.end ≤ length s)
   -- the common name, where there is one, lies inside it
-  pub name : (p : Part) → f.name ≡ Name.Given p → (p.start ≤ p.end) × (p.end ≤ length s)
+  pub name : (p : Part) → f.name ≡ Some p → (p.start ≤ p.end) × (p.end ≤ length s)
   -- what stands in GeneralNames lies inside it, and is elements that follow one another with no byte between them
   pub alternatives : (f.alternatives.start ≤ f.alternatives.end) × (f.alternatives.end ≤ length s)
   pub names : Tiles s f.alternatives.start (elements (take f.alternatives.end s) f.alternatives.start) f.alternatives.end
@@ -177,8 +174,8 @@ positive (suc n) h = omega arith
 unfoldable NamesIn : List ℕ → Part → Type 0
 NamesIn s p = ((p.start ≤ p.end) × (p.end ≤ length s)) × Tiles s p.start (elements (take p.end s) p.start) p.end
 
-sequence_run : (levels : ℕ) (s : List ℕ) (at : ℕ) (h : Head) → header at (drop at s) ≡ Header.Opens h → h.tag ≡ 48 → Der.walk_element (suc levels) s at ≡ Walk.Past h.end
-    → Der.walk_run (Der.walk_element levels) (take h.end s) h.start ≡ Walk.Past h.end
+sequence_run : (levels : ℕ) (s : List ℕ) (at : ℕ) (h : Head) → header at (drop at s) ≡ Some h → h.tag ≡ 48 → Der.walk_element (suc levels) s at ≡ Ok h.end
+    → Der.walk_run (Der.walk_element levels) (take h.end s) h.start ≡ Ok h.end
 unfolding Der.walk_element Der.opened Der.walk_contents is_constructed
 sequence_run levels s at h o t e = rw (o, t) at e
 
@@ -211,11 +208,11 @@ alternatives_in s at x = go (eqb at 0) refl
     go true q = no_names s
     go false q = let k = x (positive at (eqb-false at 0 q)) in rw (contents_are s at k.stands) (sequence_names s at k)
 
-name_in : (s : List ℕ) (at : ℕ) → (0 < at → Stands s at) → (p : Part) → name_at s at ≡ Name.Given p → (p.start ≤ p.end) × (p.end ≤ length s)
+name_in : (s : List ℕ) (at : ℕ) → (0 < at → Stands s at) → (p : Part) → name_at s at ≡ Some p → (p.start ≤ p.end) × (p.end ≤ length s)
 unfolding name_at
 name_in s at x p e = go (eqb at 0) refl e
   where
-    go : (b : Bool) → eqb at 0 ≡ b → cond b Name.Absent (Name.Given (contents_at s at)) ≡ Name.Given p → (p.start ≤ p.end) × (p.end ≤ length s)
+    go : (b : Bool) → eqb at 0 ≡ b → cond b None (Some (contents_at s at)) ≡ Some p → (p.start ≤ p.end) × (p.end ≤ length s)
     go true q e = never cc
     go false q e =
         let k = x (positive at (eqb-false at 0 q)) in
@@ -232,7 +229,7 @@ key_is s at x =
     let z : record { start = at; end = x.stands.head.end } ≡ whole_of at (header at (drop at s)) = rw x.stands.opens in
     subst (λ (p : Part). OneSequence s p) z (record { element = x; ends = refl })
 
-found_sound : (s : List ℕ) (m : Noted) → walk_certificate s ≡ RunWalk.Past m → length (dns_ids_of s (found_at s m)) ≤ 64 → Sound s (found_at s m)
+found_sound : (s : List ℕ) (m : Noted) → walk_certificate s ≡ Ok m → length (dns_ids_of s (found_at s m)) ≤ 64 → Sound s (found_at s m)
 unfolding found_at NamesIn
 found_sound s m w c =
     let x = noted_opens s m w in
@@ -248,22 +245,22 @@ found_sound s m w c =
     }
 
 -- A certificate that is read is sound in all of these respects.
-pub read_sound : (s : List ℕ) (f : Found) → read_leaf s ≡ Reading.Is f → Sound s f
+pub read_sound : (s : List ℕ) (f : Found) → read_leaf s ≡ Ok f → Sound s f
 unfolding read_leaf reading_of
 read_sound s f e = go (fields_of s) refl e
   where
-    counted : (g : Found) → fields_of s ≡ Fields.Are g → (b : Bool) → ltb 64 (length (dns_ids_of s g)) ≡ b → cond b Reading.ManyDnsIds (Reading.Is g) ≡ Reading.Is f → Sound s f
+    counted : (g : Found) → fields_of s ≡ Ok g → (b : Bool) → ltb 64 (length (dns_ids_of s g)) ≡ b → cond b (Err ReadError.ManyDnsIds) (Ok g) ≡ Ok f → Sound s f
     counted g w true q e = never cc
     counted g w false q e =
         let z : g ≡ f = cc in
         fields_walk s g w (λ m v y.
         subst (λ (x : Found). Sound s x) (sym y ∙ z) (found_sound s m v (subst (λ (x : Found). length (dns_ids_of s x) ≤ 64) y (ltb-false 64 (length (dns_ids_of s g)) q))))
 
-    go : (w : Fields) → fields_of s ≡ w → reading_of s w ≡ Reading.Is f → Sound s f
-    go (Fields.Fault o) w e = never cc
-    go (Fields.Are g) w e = counted g w (ltb 64 (length (dns_ids_of s g))) refl e
+    go : (w : Result Found Fault) → fields_of s ≡ w → reading_of s w ≡ Ok f → Sound s f
+    go (Err o) w e = never cc
+    go (Ok g) w e = counted g w (ltb 64 (length (dns_ids_of s g))) refl e
 
-module _ (s : List ℕ) (f : Found) (read : read_leaf s ≡ Reading.Is f) where
+module _ (s : List ℕ) (f : Found) (read : read_leaf s ≡ Ok f) where
   -- The DNS-IDs of a certificate that is read are the dNSName elements of whatever list of elements fills its GeneralNames from end to end, so that none is lost and none comes twice.
   pub ids_are : (hs : List Head) → Tiles s f.alternatives.start hs f.alternatives.end → dns_ids_of s f ≡ dns_names hs
   unfolding dns_ids_of dns_ids_from

@@ -13,7 +13,7 @@ use Rattle.der.specs.Header.{value_of, long_size, short_size, headed, header, is
 use Rattle.der.specs.Elements.{with_head, elements_from, elements}
 use Rattle.der.specs.Walk as Der
 use Rattle.x509.specs.Fields.{is_of, tagged, holds, or_else, noting, string_name, built_name, expects, may_end}
-use Rattle.x509.specs.Walk.{noted, and_then, at_end, run_from, walk_run, met_as, met_by, met, passing, leaving, walk_met, opened, walk_element, walk_certificate}
+use Rattle.x509.specs.Walk.{noted, and_then, at_end, run_from, walk_run, passing, leaving, walk_in, walk_met, opened, walk_element, walk_certificate}
 use Rattle.x509.specs.Found.{whole_of, contents_of, whole_at, contents_at, name_at, alternatives_at, found_at, fields_by, fields_of}
 use Rattle.leaf.specs.declared.CertificateAnswer.{CertificateAnswer}
 use Rattle.leaf.specs.Names.{dns_names, dns_ids_from, dns_ids_of, each_as}
@@ -146,14 +146,14 @@ bytes = refl
 
 -- it is read: its key at 87, the last of its two common names at 83, and both of its DNS-IDs
 read : read_certificate full 32 ≡ record { number = 15; length = 32; offset = 0; key_start = 87; key_length = 11; dns_id_count = 2; common_name_given = 1; common_name_start = 83; common_name_length = 4 }
-unfolding agree same_byte value_of long_size short_size headed header is_constructed with_head elements_from elements Der.and_then Der.run_from Der.walk_run Der.walk_contents Der.opened Der.walk_element is_of tagged holds or_else noting string_name built_name expects may_end noted and_then at_end run_from walk_run met_as met_by met passing leaving walk_met opened walk_element walk_certificate whole_of contents_of whole_at contents_at name_at alternatives_at found_at fields_by fields_of dns_names dns_ids_from dns_ids_of each_as reading_of read_leaf accepted answer_of read_certificate
+unfolding agree same_byte value_of long_size short_size headed header is_constructed with_head elements_from elements Der.and_then Der.run_from Der.walk_run Der.walk_contents Der.opened Der.walk_element is_of tagged holds or_else noting string_name built_name expects may_end noted and_then at_end run_from walk_run passing leaving walk_in walk_met opened walk_element walk_certificate whole_of contents_of whole_at contents_at name_at alternatives_at found_at fields_by fields_of dns_names dns_ids_from dns_ids_of each_as reading_of read_leaf accepted answer_of read_certificate
 read = refl
 
 -- the places of its DNS-IDs, at 154 and 196, and two bytes after them as they were
 places :
     wrote_places full (replicate 34 7)
     ≡ 0 ∷ 0 ∷ 0 ∷ 0 ∷ 0 ∷ 0 ∷ 0 ∷ 154 ∷ 0 ∷ 0 ∷ 0 ∷ 0 ∷ 0 ∷ 0 ∷ 0 ∷ 3 ∷ 0 ∷ 0 ∷ 0 ∷ 0 ∷ 0 ∷ 0 ∷ 0 ∷ 196 ∷ 0 ∷ 0 ∷ 0 ∷ 0 ∷ 0 ∷ 0 ∷ 0 ∷ 5 ∷ 7 ∷ 7 ∷ []
-unfolding agree same_byte value_of long_size short_size headed header is_constructed with_head elements_from elements Der.and_then Der.run_from Der.walk_run Der.walk_contents Der.opened Der.walk_element is_of tagged holds or_else noting string_name built_name expects may_end noted and_then at_end run_from walk_run met_as met_by met passing leaving walk_met opened walk_element walk_certificate whole_of contents_of whole_at contents_at name_at alternatives_at found_at fields_by fields_of dns_names dns_ids_from dns_ids_of each_as reading_of read_leaf eight sixteen wrote_front wrote_as wrote_places
+unfolding agree same_byte value_of long_size short_size headed header is_constructed with_head elements_from elements Der.and_then Der.run_from Der.walk_run Der.walk_contents Der.opened Der.walk_element is_of tagged holds or_else noting string_name built_name expects may_end noted and_then at_end run_from walk_run passing leaving walk_in walk_met opened walk_element walk_certificate whole_of contents_of whole_at contents_at name_at alternatives_at found_at fields_by fields_of dns_names dns_ids_from dns_ids_of each_as reading_of read_leaf eight sixteen wrote_front wrote_as wrote_places
 places = refl
 
 -- the answers that refuse
@@ -165,7 +165,7 @@ fault offset = refused 90 offset
 
 -- a byte less than the room that it needs: 83
 short : read_certificate full 31 ≡ refused 83 0
-unfolding agree same_byte value_of long_size short_size headed header is_constructed with_head elements_from elements Der.and_then Der.run_from Der.walk_run Der.walk_contents Der.opened Der.walk_element is_of tagged holds or_else noting string_name built_name expects may_end noted and_then at_end run_from walk_run met_as met_by met passing leaving walk_met opened walk_element walk_certificate whole_of contents_of whole_at contents_at name_at alternatives_at found_at fields_by fields_of dns_names dns_ids_from dns_ids_of each_as reading_of read_leaf accepted answer_of read_certificate
+unfolding agree same_byte value_of long_size short_size headed header is_constructed with_head elements_from elements Der.and_then Der.run_from Der.walk_run Der.walk_contents Der.opened Der.walk_element is_of tagged holds or_else noting string_name built_name expects may_end noted and_then at_end run_from walk_run passing leaving walk_in walk_met opened walk_element walk_certificate whole_of contents_of whole_at contents_at name_at alternatives_at found_at fields_by fields_of dns_names dns_ids_from dns_ids_of each_as reading_of read_leaf accepted answer_of read_certificate
 short = refl
 
 -- where its elements stand whose tag is asked for
@@ -174,7 +174,7 @@ tags = 0 ∷ 3 ∷ 6 ∷ 8 ∷ 11 ∷ 14 ∷ 22 ∷ 28 ∷ 36 ∷ 38 ∷ 40 ∷ 
 
 -- with another tag, that of NULL, each of them is misplaced where it stands
 other_tag : map (λ (at : ℕ). read_certificate (set full at 5) 1024) tags ≡ map fault tags
-unfolding agree same_byte value_of long_size short_size headed header is_constructed with_head elements_from elements Der.and_then Der.run_from Der.walk_run Der.walk_contents Der.opened Der.walk_element is_of tagged holds or_else noting string_name built_name expects may_end noted and_then at_end run_from walk_run met_as met_by met passing leaving walk_met opened walk_element walk_certificate whole_of contents_of whole_at contents_at name_at alternatives_at found_at fields_by fields_of dns_names dns_ids_from dns_ids_of each_as reading_of read_leaf accepted answer_of read_certificate
+unfolding agree same_byte value_of long_size short_size headed header is_constructed with_head elements_from elements Der.and_then Der.run_from Der.walk_run Der.walk_contents Der.opened Der.walk_element is_of tagged holds or_else noting string_name built_name expects may_end noted and_then at_end run_from walk_run passing leaving walk_in walk_met opened walk_element walk_certificate whole_of contents_of whole_at contents_at name_at alternatives_at found_at fields_by fields_of dns_names dns_ids_from dns_ids_of each_as reading_of read_leaf accepted answer_of read_certificate
 other_tag = refl
 
 -- the bytes of a case, and the answer that they are to have
@@ -384,7 +384,7 @@ cases = ends ++ signatures ++ numbers ++ subjects ++ uniques ++ seconds ++ value
 
 -- each case has its answer, where there is room
 all_answered : map (λ (c : Case). read_certificate c.bytes 1024) cases ≡ map (λ (c : Case). c.answer) cases
-unfolding agree same_byte value_of long_size short_size headed header is_constructed with_head elements_from elements Der.and_then Der.run_from Der.walk_run Der.walk_contents Der.opened Der.walk_element is_of tagged holds or_else noting string_name built_name expects may_end noted and_then at_end run_from walk_run met_as met_by met passing leaving walk_met opened walk_element walk_certificate whole_of contents_of whole_at contents_at name_at alternatives_at found_at fields_by fields_of dns_names dns_ids_from dns_ids_of each_as reading_of read_leaf accepted answer_of read_certificate
+unfolding agree same_byte value_of long_size short_size headed header is_constructed with_head elements_from elements Der.and_then Der.run_from Der.walk_run Der.walk_contents Der.opened Der.walk_element is_of tagged holds or_else noting string_name built_name expects may_end noted and_then at_end run_from walk_run passing leaving walk_in walk_met opened walk_element walk_certificate whole_of contents_of whole_at contents_at name_at alternatives_at found_at fields_by fields_of dns_names dns_ids_from dns_ids_of each_as reading_of read_leaf accepted answer_of read_certificate
 all_answered = refl
 
 -- the certificates with an element after the last field of something, and where it begins: in version, attributes, extensions, TBSCertificate, an extension, a subjectAltName, directoryName and Certificate
@@ -417,5 +417,5 @@ lasts =
 
 -- after it no element may stand: one with any of five tags is misplaced there
 after_last : map (λ (tag : ℕ). map (λ (p : Last). read_certificate (p.with (element tag [])) 1024) lasts) (5 ∷ 48 ∷ 49 ∷ 130 ∷ 163 ∷ []) ≡ replicate 5 (map (λ (p : Last). fault p.offset) lasts)
-unfolding agree same_byte value_of long_size short_size headed header is_constructed with_head elements_from elements Der.and_then Der.run_from Der.walk_run Der.walk_contents Der.opened Der.walk_element is_of tagged holds or_else noting string_name built_name expects may_end noted and_then at_end run_from walk_run met_as met_by met passing leaving walk_met opened walk_element walk_certificate whole_of contents_of whole_at contents_at name_at alternatives_at found_at fields_by fields_of dns_names dns_ids_from dns_ids_of each_as reading_of read_leaf accepted answer_of read_certificate
+unfolding agree same_byte value_of long_size short_size headed header is_constructed with_head elements_from elements Der.and_then Der.run_from Der.walk_run Der.walk_contents Der.opened Der.walk_element is_of tagged holds or_else noting string_name built_name expects may_end noted and_then at_end run_from walk_run passing leaving walk_in walk_met opened walk_element walk_certificate whole_of contents_of whole_at contents_at name_at alternatives_at found_at fields_by fields_of dns_names dns_ids_from dns_ids_of each_as reading_of read_leaf accepted answer_of read_certificate
 after_last = refl

@@ -1,26 +1,33 @@
 // The leaf certificate: what is read of it, and the places of its names.
 #![tactic(auto)]
 
-ghost use Rattle.std.specs.Prelude.{◌≡◌, [], ◌∷◌, ◌++◌, ◌<◌, ◌≤◌, ◌-◌, ◌*◌, ◌^◌, ◌%◌, length, drop};
+ghost use Rattle.std.specs.Prelude.{◌≡◌, [], ◌∷◌, ◌++◌, ◌<◌, ◌≤◌, ◌-◌, ◌*◌, ◌^◌, length, drop};
+ghost use Rattle.std.specs.Iterator.{YieldsFirst, item_count};
 ghost use Rattle.lists.specs.Write.{wrote_front};
-ghost use Rattle.leaf.specs.Names.{dns_ids_from, dns_ids_of, first_of};
+ghost use Rattle.leaf.specs.declared.ReadError.TheVariants.{Malformed};
+ghost use Rattle.leaf.specs.Names.{dns_ids_from, dns_ids_of, ids_left, first_of};
 ghost use Rattle.leaf.specs.Read.{sixteen, places_text, accepted, refusal, read_leaf, read_certificate, wrote_places};
 
-use reader::Step;
-use x509::{Fields, Found, Name, Part};
+use der::Fault;
+use reader::Reader;
+use x509::{Found, Part};
 
 // The most DNS-IDs that a certificate may have.
 const DNS_IDS_AT_MOST: usize = 64;
 
-// A number below it has two bytes.
-const TWO_BYTES_BELOW: usize = 65536;
-
-// What is read of a certificate: a fault at an offset, too many DNS-IDs, or what was found.
-#[derive(Clone, Copy)]
-pub enum Reading {
-    Fault(usize),
+// Why a certificate is refused: a fault, or more DNS-IDs than are read.
+#[derive(Clone, Copy, Debug, PartialEq, Eq)]
+pub enum ReadError {
+    Malformed(Fault),
     ManyDnsIds,
-    Is(Found),
+}
+
+impl From<Fault> for ReadError {
+    ghost from_gives = { λ f e. e ≡ Malformed f };
+
+    fn from(fault: Fault) -> ReadError {
+        ReadError::Malformed(fault)
+    }
 }
 
 // The answer of the call that reads a certificate.
@@ -38,216 +45,127 @@ pub struct CertificateAnswer {
     pub common_name_length: u64,
 }
 
-// The first DNS-ID from `at` on: at sight where it stands there with a length of one byte, else a reader moves from element to element.
-pub fn next_dns_id(s: &[u8], at: usize) -> Name
+// The first DNS-ID from `at` on: at sight where it stands there with a length of one byte, else a reader looks for it.
+#[inline(always)]
+#[tactic(auto, using(crate::proofs::Names::next_laws))]
+pub fn next_dns_id(s: &[u8], at: usize) -> Option<Part>
     ensures { result ≡ first_of (dns_ids_from s.now at) }
 {
     if s.len() < 2 {
-        return Name::Absent;
+        return None;
     }
-    if at <= s.len() - 2 {
-        if s[at] == x509::DNS_NAME {
-            let size = der::wide(s[at + 1]);
-            if size < 128 {
-                let start = at + 2;
-                let end = start + size;
-                if end <= s.len() {
-                    return Name::Given(Part { start, end });
-                }
-            }
+    if at <= s.len() - 2 && s[at] == x509::DNS_NAME {
+        let size = usize::from(s[at + 1]);
+        let start = at + 2;
+        if size < 128 && start + size <= s.len() {
+            return Some(Part {
+                start,
+                end: start + size,
+            });
         }
     }
-    let mut i = at;
-    loop {
-        let step = reader::element_at(s, i);
-        match step {
-            Step::End => return Name::Absent,
-            Step::Broken => return Name::Absent,
-            Step::Element(head) => {
-                let start = head.start;
-                let end = head.end;
-                if head.tag == x509::DNS_NAME {
-                    return Name::Given(Part { start, end });
-                }
-                i = end;
-            }
+    dns_id_further(s, at)
+}
+
+// The same, by a reader that moves from element to element.
+#[inline(never)]
+#[tactic(auto, using(crate::proofs::Names::next_laws))]
+fn dns_id_further(s: &[u8], at: usize) -> Option<Part>
+    ensures { result ≡ first_of (dns_ids_from s.now at) }
+{
+    for head in Reader::new(s, at) {
+        if head.tag == x509::DNS_NAME {
+            return Some(Part {
+                start: head.start,
+                end: head.end,
+            });
         }
+    }
+    None
+}
+
+// The DNS-IDs from a place on: an iterator over their parts.
+#[derive(Clone, Copy)]
+pub struct DnsIds<'a> {
+    pub src: &'a [u8],
+    pub at: usize,
+}
+
+impl<'a> Iterator for DnsIds<'a> {
+    type Item = Part;
+
+    ghost next_gives = { YieldsFirst ids_left };
+
+    ghost remaining = { item_count ids_left };
+
+    #[inline(always)]
+    #[tactic(auto, using(crate::proofs::Names::turn_laws))]
+    fn next(&mut self) -> Option<Part> {
+        let id = next_dns_id(self.src, self.at)?;
+        self.at = id.end;
+        Some(id)
     }
 }
 
-// How many DNS-IDs there are from `at` on.
-fn count_dns_ids(s: &[u8], at: usize) -> usize
-    ensures { result ≡ length (dns_ids_from s.now at) }
+// The DNS-IDs of a certificate in which that was found.
+#[tactic(auto, unfolding(crate::specs::Names::dns_ids_of))]
+pub fn dns_ids_of<'a>(s: &'a [u8], found: Found) -> DnsIds<'a>
+    ensures { ids_left result ≡ dns_ids_of s.entry.now found }
 {
-    let mut i = at;
-    let mut n = 0;
-    loop {
-        let id = next_dns_id(s, i);
-        match id {
-            Name::Absent => return n,
-            Name::Given(p) => {
-                i = p.end;
-                n += 1;
-            }
-        }
+    DnsIds {
+        src: der::front(s, found.alternatives.end),
+        at: found.alternatives.start,
     }
 }
 
-// The last byte of a number.
-fn low_byte(n: usize) -> u8
-    ensures { result ≡ n % 256 }
+// How many they are.
+fn count(ids: DnsIds<'_>) -> usize
+    ensures { result ≡ length (ids_left ids.entry) }
 {
-    (n % 256) as u8
+    ids.count()
 }
 
 // How many bytes a part has.
 pub fn size_of(p: Part) -> usize
     ensures { result ≡ p.end - p.start }
 {
-    if p.end < p.start {
-        return 0;
-    }
-    p.end - p.start
+    p.end.saturating_sub(p.start)
 }
 
 // The place of a part: its start and its length, eight bytes each, high first.
+#[tactic(auto, using(crate::proofs::Writing::place_is))]
 fn place_of(p: Part) -> [u8; 16]
     ensures { result ≡ sixteen p }
 {
-    let a = p.start;
-    let b = size_of(p);
-    [
-        low_byte(a / 72057594037927936),
-        low_byte(a / 281474976710656),
-        low_byte(a / 1099511627776),
-        low_byte(a / 4294967296),
-        low_byte(a / 16777216),
-        low_byte(a / 65536),
-        low_byte(a / 256),
-        low_byte(a),
-        low_byte(b / 72057594037927936),
-        low_byte(b / 281474976710656),
-        low_byte(b / 1099511627776),
-        low_byte(b / 4294967296),
-        low_byte(b / 16777216),
-        low_byte(b / 65536),
-        low_byte(b / 256),
-        low_byte(b),
-    ]
+    let mut place = [0; 16];
+    place[..8].copy_from_slice(&p.start.to_be_bytes());
+    place[8..].copy_from_slice(&size_of(p).to_be_bytes());
+    place
 }
 
-// The place of a part that ends so early that its start and its length have two bytes.
-fn short_place_of(p: Part) -> [u8; 16]
-    requires { (p.start ≤ p.end) × (p.end < 65536) }
-    ensures { result ≡ sixteen p }
+// Writes the places of DNS-IDs over the front of the output, which has room for them.
+fn write_places(ids: DnsIds<'_>, output: &mut [u8])
+    requires { length (places_text (ids_left ids)) ≤ length output.old }
+    ensures { output.new ≡ places_text (ids_left ids.entry) ++ drop (length (places_text (ids_left ids.entry))) output.old }
 {
-    let a = p.start;
-    let b = p.end - a;
-    [
-        0,
-        0,
-        0,
-        0,
-        0,
-        0,
-        low_byte(a / 256),
-        low_byte(a),
-        0,
-        0,
-        0,
-        0,
-        0,
-        0,
-        low_byte(b / 256),
-        low_byte(b),
-    ]
-}
-
-// Writes the places of the DNS-IDs from `at` on over the front of the output, which has room for them.
-fn write_places(s: &[u8], at: usize, output: &mut [u8])
-    requires { length (places_text (dns_ids_from s.now at)) ≤ length output.old }
-    ensures { output.new ≡ places_text (dns_ids_from s.now at) ++ drop (length (places_text (dns_ids_from s.now at))) output.old }
-{
-    let mut i = at;
+    // n beside the items: each turn writes into what the one before has left of the output.
     let mut n = 0;
-    loop {
-        let id = next_dns_id(s, i);
-        match id {
-            Name::Absent => return,
-            Name::Given(p) => {
-                let place = place_of(p);
-                let past = p.end;
-                lists::write_front(&place, &mut output[n..]);
-                n += 16;
-                i = past;
-            }
-        }
+    for id in ids {
+        output[n..n + 16].copy_from_slice(&place_of(id));
+        n += 16;
     }
-}
-
-// The same where s is so short that each place is a short one.
-fn write_short_places(s: &[u8], at: usize, output: &mut [u8])
-    requires { (length (places_text (dns_ids_from s.now at)) ≤ length output.old) × (length s.now < 65536) }
-    ensures { output.new ≡ places_text (dns_ids_from s.now at) ++ drop (length (places_text (dns_ids_from s.now at))) output.old }
-{
-    let mut i = at;
-    let mut n = 0;
-    loop {
-        let id = next_dns_id(s, i);
-        match id {
-            Name::Absent => return,
-            Name::Given(p) => {
-                let place = short_place_of(p);
-                let next = p.end;
-                lists::write_front(&place, &mut output[n..]);
-                n += 16;
-                i = next;
-            }
-        }
-    }
-}
-
-// How many DNS-IDs a certificate has in which that was found.
-fn count_in(s: &[u8], found: Found) -> usize
-    ensures { result ≡ length (dns_ids_of s.now found) }
-{
-    let names = found.alternatives;
-    let start = names.start;
-    let end = names.end;
-    count_dns_ids(der::front(s, end), start)
 }
 
 // What is read of a certificate.
-pub fn read_leaf(s: &[u8]) -> Reading
+#[tactic(auto, using(crate::proofs::Answers::read_laws))]
+pub fn read_leaf(s: &[u8]) -> Result<Found, ReadError>
     ensures { result ≡ read_leaf s.now }
 {
-    let fields = usual::fields_of(s);
-    match fields {
-        Fields::Fault(o) => Reading::Fault(o),
-        Fields::Are(found) => {
-            let n = count_in(s, found);
-            if DNS_IDS_AT_MOST < n {
-                return Reading::ManyDnsIds;
-            }
-            Reading::Is(found)
-        }
+    let found = usual::fields_of(s)?;
+    if DNS_IDS_AT_MOST < count(dns_ids_of(s, found)) {
+        return Err(ReadError::ManyDnsIds);
     }
-}
-
-// Writes the places of the DNS-IDs of a certificate in which that was found over the front of the output, which has room for them.
-fn write_found(s: &[u8], found: Found, output: &mut [u8])
-    requires { length (places_text (dns_ids_of s.now found)) ≤ length output.old }
-    ensures { output.new ≡ wrote_front (places_text (dns_ids_of s.now found)) output.old }
-{
-    let part = found.alternatives;
-    let start = part.start;
-    let end = part.end;
-    let names = der::front(s, end);
-    if names.len() < TWO_BYTES_BELOW {
-        write_short_places(names, start, output);
-        return;
-    }
-    write_places(names, start, output)
+    Ok(found)
 }
 
 // A refusal: its number, and where something is wrong.
@@ -268,61 +186,46 @@ fn refused(number: u64, offset: usize) -> CertificateAnswer
 }
 
 // The answer of a certificate that is read, with n DNS-IDs.
-fn accepted(key: Part, n: usize, name: Name) -> CertificateAnswer
+#[tactic(auto, using(crate::proofs::Answers::accepted_laws))]
+fn accepted(key: Part, n: usize, name: Option<Part>) -> CertificateAnswer
     requires { 16 * n < 2 ^ 64 }
     ensures { result ≡ accepted key n name }
 {
-    let key_length = size_of(key);
-    let length = 16 * n;
-    match name {
-        Name::Given(p) => {
-            let size = size_of(p);
-            CertificateAnswer {
-                number: 15,
-                length: length as u64,
-                offset: 0,
-                key_start: key.start as u64,
-                key_length: key_length as u64,
-                dns_id_count: n as u64,
-                common_name_given: 1,
-                common_name_start: p.start as u64,
-                common_name_length: size as u64,
-            }
-        }
-        Name::Absent => CertificateAnswer {
-            number: 15,
-            length: length as u64,
-            offset: 0,
-            key_start: key.start as u64,
-            key_length: key_length as u64,
-            dns_id_count: n as u64,
-            common_name_given: 2,
-            common_name_start: 0,
-            common_name_length: 0,
-        },
+    let (given, start, size) = match name {
+        Some(p) => (1, p.start, size_of(p)),
+        None => (2, 0, 0),
+    };
+    CertificateAnswer {
+        number: 15,
+        length: (16 * n) as u64,
+        offset: 0,
+        key_start: key.start as u64,
+        key_length: size_of(key) as u64,
+        dns_id_count: n as u64,
+        common_name_given: given,
+        common_name_start: start as u64,
+        common_name_length: size as u64,
     }
 }
 
 // Reads a certificate, and writes the places of its DNS-IDs over the front of the lent places.
+#[tactic(auto, using(crate::proofs::Answers::answer_laws))]
 pub fn read_certificate(certificate: &[u8], places: &mut [u8]) -> CertificateAnswer
     ensures value { result ≡ read_certificate certificate.now (length places.old) }
     ensures places_after { places.new ≡ wrote_places certificate.now places.old }
 {
-    let fields = usual::fields_of(certificate);
-    match fields {
-        Fields::Fault(o) => refused(90, o),
-        Fields::Are(found) => {
-            let n = count_in(certificate, found);
-            if DNS_IDS_AT_MOST < n {
-                return refused(91, 0);
-            }
-            if places.len() / 16 < n {
-                return refused(writing::OUTPUT_SHORT, 0);
-            }
-            write_found(certificate, found, places);
-            let key = found.key;
-            let name = found.name;
-            accepted(key, n, name)
-        }
+    let found = match usual::fields_of(certificate) {
+        Ok(found) => found,
+        Err(fault) => return refused(90, fault.at),
+    };
+    let ids = dns_ids_of(certificate, found);
+    let n = count(ids);
+    if DNS_IDS_AT_MOST < n {
+        return refused(91, 0);
     }
+    if places.len() / 16 < n {
+        return refused(writing::OUTPUT_SHORT, 0);
+    }
+    write_places(ids, places);
+    accepted(found.key, n, found.name)
 }

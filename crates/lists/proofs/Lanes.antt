@@ -1,6 +1,6 @@
 -- Words: numbers of eight bytes. What the code does to a word by `+`, `&`, `|` and `^` is done to each of its bytes apart, as long as no byte overflows. What
 -- becomes of one byte, antt computes at all 256 of them. Assumes nothing.
-use Prim.Native.Nat.{ℕ, zero, suc, ◌+◌, ◌-◌, ◌*◌, ◌^◌, ◌<◌, ◌≤◌}
+use Prim.Native.Nat.{ℕ, zero, suc, ◌+◌, ◌*◌, ◌^◌, ◌<◌, ◌≤◌}
 use mathlib.Core.Path.{◌≡◌, refl, ap₂, ◌∙◌}
 use mathlib.Core.Bool.{Bool, true, cond, ◌&&◌}
 use mathlib.Core.List.{List, [], ◌∷◌}
@@ -9,13 +9,11 @@ use native.Mathlib.Nat.{eq-or-lt_of_le}
 use native.Mathlib.Omega.{arith}
 use lib.Bits.{bit_and, bit_or, bit_xor, and_le_r, and_block, or_block, xor_block}
 use lib.Dec.{eqb, leb, ltb}
-use lib.ListN.{length, take, drop}
+use lib.ListN.{length}
 use borrow.Author.Tests.{eqb-true, leb-true, ltb-true}
 use Rattle.lists.specs.Bytes.{all, is_bytes}
-use Rattle.lists.specs.Words.{number_of, eight_at, first_eight, marks}
+use Rattle.lists.specs.Words.{number_of, marks}
 use Rattle.lists.proofs.Bools.{and_left, and_right}
-use Rattle.lists.proofs.Laws.{part_length}
-use Rattle.lists.proofs.Words.{eight_part}
 
 -- every number below n passes the test
 unfoldable pub below : ℕ → (ℕ → Bool) → Bool
@@ -183,15 +181,12 @@ marks_are e p h l bytes eight =
     let marked = below 256 (λ (b : ℕ). eqb (on_byte e b) (cond (p b) 0 128)) in
     on_word_lem l bytes eight e (and_left (keeps_bytes e) marked h) ∙ lanes_marks (on_byte e) p (and_right (keeps_bytes e) marked h) l bytes
 
--- what a function that marks has to show: x is what `first_eight` gave of the eight bytes from i on
+-- what a function that marks has to show: x is the number of eight bytes
 abbrev pub Marking : Expression → (ℕ → Bool) → Type 0
-Marking e p = (s : List ℕ) (i x : ℕ) → i + 8 ≤ length s → x ≡ number_of (first_eight (take (i + 8 - i) (drop i s))) → is_bytes (first_eight (take (i + 8 - i) (drop i s))) ≡ true → on_word e x ≡ marks p (eight_at s i)
+Marking e p = (l : List ℕ) (x : ℕ) → length l ≡ 8 → is_bytes l ≡ true → number_of l ≡ x → on_word e x ≡ marks p l
 
 pub marking : (e : Expression) (p : ℕ → Bool) → is_marking e p ≡ true → Marking e p
-marking e p h s i x fits is bytes =
-    let part = eight_part s i fits in
-    let k : on_word e x ≡ on_word e (number_of (eight_at s i)) = rw (is, part) refl in
-    k ∙ marks_are e p h (eight_at s i) (rw part at bytes) (part_length s i 8 fits)
+marking e p h l x eight bytes is = let k : on_word e x ≡ on_word e (number_of l) = rw is refl in k ∙ marks_are e p h l bytes eight
 
 -- a word without the high bit of each byte is small, so that a sum with another such word has room
 abbrev pub low : Expression

@@ -2,6 +2,8 @@ pub mod Bools
 pub mod Laws
 pub mod All
 pub mod Any
+pub mod Items
+pub mod Std
 pub mod Agree
 pub mod Split
 pub mod Every
@@ -9,6 +11,7 @@ pub mod Span
 pub mod Write
 pub mod Words
 pub mod Lanes
+pub mod Chunks
 pub mod Marks
 pub mod Trim
 pub mod Place

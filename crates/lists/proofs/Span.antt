@@ -1,6 +1,6 @@
 -- The front of a list. A loop that goes past the bytes that pass a test p: the turn, and the two ends, where r is what the code's call of p gave; laws of
 -- `span_of` and of `begins`. Assumes nothing.
-use Prim.Native.Nat.{ℕ, zero, suc, ◌+◌, ◌<◌, ◌≤◌}
+use Prim.Native.Nat.{ℕ, zero, suc, max, ◌+◌, ◌<◌, ◌≤◌}
 use mathlib.Core.Path.{◌≡◌, refl, sym, ap, ◌∙◌}
 use mathlib.Core.Bool.{Bool, true, false, cond, ◌&&◌}
 use mathlib.Core.List.{List, [], ◌∷◌, ◌++◌}
@@ -49,6 +49,10 @@ span_le p (x ∷ s) = go (span_le p s) (p x)
     go : span_of p s ≤ length s → (t : Bool) → cond t (suc (span_of p s)) 0 ≤ suc (length s)
     go ih true = omega arith
     go ih false = omega arith
+
+-- the loop's end, also where it starts past the end of the list
+pub past_last : (p : ℕ → Bool) (s : List ℕ) (i from : ℕ) → from + span_of p (drop from s) ≡ i + span_of p (drop i s) → length s ≤ i → (r : ℕ) → r ≡ max from (length s) → r ≡ from + span_of p (drop from s)
+past_last p s i from inv h r e = omega (arith, span_none p s i h, span_le p (drop from s), length-drop from s)
 
 pub span_within : (p : ℕ → Bool) (s : List ℕ) (from e : ℕ) → e ≡ from + span_of p (drop from s) → from ≤ length s → e ≤ length s
 span_within p s from e q h = omega (arith, span_le p (drop from s), length-drop from s)

@@ -5,7 +5,6 @@ use mathlib.Core.Bool.{Bool, true, false, cond, not, ◌&&◌}
 use mathlib.Core.List.{List, [], ◌∷◌, ◌++◌}
 use native.Mathlib.Omega.{arith}
 use borrow.Author.Tests.{eq-eqb, ne_eqb, eqb-true, not-true}
-use borrow.Author.Rules.{rules}
 use lib.Dec.{eqb}
 use lib.ListN.{length, get_or, drop, take, drop_of_length-le, take-append-drop}
 use Rattle.lists.specs.Bytes.{all}
@@ -34,8 +33,6 @@ find_hit s b from i inv h e = omega (arith, index_of_here s b i h e)
 
 pub find_end : (s : List ℕ) (b from i : ℕ) → from + index_of b (drop from s) ≡ i + index_of b (drop i s) → length s ≤ i → i ≡ from + index_of b (drop from s)
 find_end s b from i inv h = omega (arith, index_of_end s b i h)
-
-pub ruleset find_laws = (find_next, find_hit, find_end, rules)
 
 pub index_of_le : (b : ℕ) (s : List ℕ) → index_of b s ≤ length s
 unfolding index_of

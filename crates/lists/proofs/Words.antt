@@ -7,15 +7,15 @@ use native.Mathlib.Nat.{add-zero}
 use native.Mathlib.Omega.{arith}
 use lib.Dec.{eqb, leb}
 use lib.ListN.{length, get_or, take, drop, length-drop}
-use lib.Seq.{get_or-drop, drop-drop, take-take}
+use lib.Seq.{get_or-drop, drop-drop}
 use borrow.Author.Rules.{rules}
 use borrow.Author.Tests.{not-true, not-false, eq-eqb, ne_eqb, eqb-true, lt-leb, le-leb, leb-true}
 use Rattle.lists.specs.Bytes.{all, is_bytes}
 use Rattle.lists.specs.Equal.{agree, same_byte}
-use Rattle.lists.specs.Words.{number_of, eight_at, first_eight}
+use Rattle.lists.specs.Words.{number_of, eight_at}
 use Rattle.lists.proofs.Agree.{agree_length}
 use Rattle.lists.proofs.Bools.{apart, and_left, and_right}
-use Rattle.lists.proofs.Laws.{drop_take, take_rest, part_length}
+use Rattle.lists.proofs.Laws.{take_rest}
 
 -- the first eight of a list
 front_eight : (u : List ℕ) → 8 ≤ length u → take 8 u ≡ get_or u 0 0 ∷ get_or u 1 0 ∷ get_or u 2 0 ∷ get_or u 3 0 ∷ get_or u 4 0 ∷ get_or u 5 0 ∷ get_or u 6 0 ∷ get_or u 7 0 ∷ []
@@ -98,52 +98,11 @@ module _ (n : ℕ) (a b : List ℕ) (i : ℕ) (r : Bool) (gave : r ≡ agree sam
   pub same_differ : agree same_byte a b ≡ agree same_byte (drop i a) (drop i b) → r ≡ false → false ≡ agree same_byte a b
   same_differ inv t = sym (inv ∙ (agree_cut same_byte n (drop i a) (drop i b) ∙ rw (sym gave ∙ t) refl))
 
-  -- twice as many bytes, by their two halves: t is what the comparison of the second gave
-  twice : agree same_byte (take (n + n) (drop i a)) (take (n + n) (drop i b)) ≡ (r && agree same_byte (take n (drop (i + n) a)) (take n (drop (i + n) b)))
-  twice =
-      let k : n + n - n ≡ n = omega arith in
-      agree_cut same_byte n (take (n + n) (drop i a)) (take (n + n) (drop i b))
-      ∙ rw (take-take n (n + n) (drop i a) (omega arith), take-take n (n + n) (drop i b) (omega arith), drop_take n (n + n) (drop i a), drop_take n (n + n) (drop i b), k, drop-drop n i a, drop-drop n i b, sym gave) refl
-
-  pub twice_differ : r ≡ false → false ≡ agree same_byte (take (n + n) (drop i a)) (take (n + n) (drop i b))
-  twice_differ f = sym (twice ∙ rw f refl)
-
-  pub twice_same : r ≡ true → (t : Bool) → t ≡ agree same_byte (take n (drop (i + n) a)) (take n (drop (i + n) b)) → t ≡ agree same_byte (take (n + n) (drop i a)) (take (n + n) (drop i b))
-  twice_same h t second = second ∙ sym (twice ∙ rw h refl)
-
 -- the rest, by what the comparison of what is left gave
 pub agree_rest : (p : ℕ → ℕ → Bool) (a b : List ℕ) (i : ℕ) (r : Bool) → agree p a b ≡ agree p (drop i a) (drop i b) → r ≡ agree p (drop i a) (drop i b) → r ≡ agree p a b
 agree_rest p a b i r inv gave = gave ∙ sym inv
 
 pub same_rest : (a b : List ℕ) (i : ℕ) (r : Bool) → agree same_byte a b ≡ agree same_byte (drop i a) (drop i b) → r ≡ agree same_byte (take (length a - i) (drop i a)) (take (length b - i) (drop i b)) → r ≡ agree same_byte a b
 same_rest a b i r inv gave = agree_rest same_byte a b i r inv (gave ∙ rw (take_rest a i, take_rest b i) refl)
-
--- `first_eight`: of fewer than eight bytes, and r is what `eight_at` gave at the front
-module _ (s : List ℕ) where
-  pub first_few : length s < 8 → 0 ≡ number_of (first_eight s)
-  unfolding first_eight number_of
-  first_few h = rw (lt-leb 8 (length s) h) refl
-
-  pub few_bytes : length s < 8 → is_bytes (first_eight s) ≡ true
-  unfolding first_eight all
-  few_bytes h = rw (lt-leb 8 (length s) h) refl
-
-  pub first_number : 8 ≤ length s → (r : ℕ) → r ≡ number_of (eight_at s 0) → r ≡ number_of (first_eight s)
-  unfolding first_eight
-  first_number h r e = rw (le-leb 8 (length s) h) e
-
-  pub first_bytes : 8 ≤ length s → is_bytes (eight_at s 0) ≡ true → is_bytes (first_eight s) ≡ true
-  unfolding first_eight
-  first_bytes h e = rw (le-leb 8 (length s) h) e
-
--- of the part of s that has the eight bytes from i on
-pub eight_part : (s : List ℕ) (i : ℕ) → i + 8 ≤ length s → first_eight (take (i + 8 - i) (drop i s)) ≡ eight_at s i
-unfolding first_eight
-eight_part s i h =
-    let n : i + 8 - i ≡ 8 = omega arith in
-    let w : length (take 8 (drop i s)) ≡ 8 = part_length s i 8 h in
-    rw (n, le-leb 8 (length (take 8 (drop i s))) (omega arith)) (take-take 8 8 (drop i s) (omega arith))
-
-pub ruleset first_laws = (first_few, few_bytes, first_number, first_bytes, rules)
 
 pub ruleset eight_laws = (agree_length, eight_number, eight_bytes, eight_same, same_next, same_differ, agree_rest, same_rest, not-true, not-false, rules)

@@ -1,219 +1,144 @@
 // Bytes and lists of bytes, as the crates above share them.
 #![tactic(auto)]
 
-ghost use Rattle.std.specs.Prelude.{◌≡◌, cond, true, ◌+◌, ◌/◌, ◌<◌, ◌≤◌, leb, length, take, drop};
+ghost use Rattle.std.specs.Prelude.{◌≡◌, ℕ, Bool, List, true, ◌+◌, ◌*◌, ◌/◌, ◌<◌, ◌≤◌, leb, length, drop};
 ghost use Rattle.std.specs.Int.Count.{count_trailing_zeros};
-ghost use Rattle.lists.specs.Bytes.{within, is_bytes};
-ghost use Rattle.lists.specs.Equal.{same_byte, same_letter, same_bytes};
+ghost use Rattle.lists.specs.Bytes.{is_bytes};
+ghost use Rattle.lists.specs.Equal.{same_letter, same_bytes};
+ghost use Rattle.lists.specs.Span.{span_of};
 ghost use Rattle.lists.specs.Split.{index_of};
-ghost use Rattle.lists.specs.Words.{number_of, eight_at, first_eight};
+ghost use Rattle.lists.specs.Words.{number_of, first_eight, marks};
 ghost use Rattle.lists.specs.Write.{wrote_front};
 
-// Whether b stands between lo and hi, both included.
-pub fn is_within(lo: u8, hi: u8, b: u8) -> bool
-    ensures { result ≡ within lo hi b }
-{
-    if b < lo {
-        return false;
-    }
-    if hi < b {
-        return false;
-    }
-    true
-}
-
-// Whether x and y are the same byte.
-pub fn is_same_byte(x: u8, y: u8) -> bool
-    ensures { result ≡ same_byte x y }
-{
-    x == y
-}
-
-// Whether c is an ASCII capital and y its small letter.
-fn is_capital_of(c: u8, y: u8) -> bool
-    requires { c < y }
-    ensures { result ≡ same_letter c y }
-{
-    let capital = is_within(b'A', b'Z', c);
-    if !capital {
-        return false;
-    }
-    c + 32 == y
-}
-
 // Whether x and y are the same byte, where an ASCII capital and its small letter count as one.
+#[tactic(auto, using(crate::proofs::Std::letter_laws))]
 pub fn is_same_letter(x: u8, y: u8) -> bool
     ensures { result ≡ same_letter x y }
 {
-    if x == y {
-        return true;
-    }
-    if x < y {
-        return is_capital_of(x, y);
-    }
-    is_capital_of(y, x)
-}
-
-// A byte as a wide number.
-pub fn wide(x: u8) -> u64
-    ensures { (result ≡ x) × (result < 256) }
-{
-    x as u64
-}
-
-// The eight bytes of s from i on as one number, the lowest first.
-fn eight_at(s: &[u8], i: usize) -> u64
-    requires { i + 8 ≤ length s.now }
-    ensures { (result ≡ number_of (eight_at s.now i)) × (is_bytes (eight_at s.now i) ≡ true) }
-{
-    let a = wide(s[i]);
-    let b = wide(s[i + 1]);
-    let c = wide(s[i + 2]);
-    let d = wide(s[i + 3]);
-    let e = wide(s[i + 4]);
-    let f = wide(s[i + 5]);
-    let g = wide(s[i + 6]);
-    let h = wide(s[i + 7]);
-    a + 256 * (b + 256 * (c + 256 * (d + 256 * (e + 256 * (f + 256 * (g + 256 * h))))))
+    x == y || x.eq_ignore_ascii_case(&y)
 }
 
 // The first eight bytes of s as one number, the lowest first; zero where s has fewer.
 pub fn first_eight(s: &[u8]) -> u64
     ensures { (result ≡ number_of (first_eight s.now)) × (is_bytes (first_eight s.now) ≡ true) }
 {
-    if s.len() < 8 {
-        return 0;
+    match s.first_chunk::<8>() {
+        Some(eight) => u64::from_le_bytes(*eight),
+        None => 0,
     }
-    eight_at(s, 0)
 }
 
 // How many of the eight bytes of m, the lowest first, stand below the one with its lowest set bit; eight where m is zero.
+#[tactic(auto, using(crate::proofs::Std::below_laws))]
 pub fn bytes_below(m: u64) -> usize
     ensures { (result ≡ count_trailing_zeros 64 m / 8) × (result ≤ 8) }
 {
-    let bits = u64::trailing_zeros(m);
-    (bits / 8) as usize
+    (m.trailing_zeros() / 8) as usize
 }
 
-// Whether the eight bytes of a and of b from i on are the same.
-fn is_same_eight(a: &[u8], b: &[u8], i: usize) -> bool
-    requires { (i + 8 ≤ length a.now) × (i + 8 ≤ length b.now) }
-    ensures { result ≡ same_bytes (eight_at a.now i) (eight_at b.now i) }
+// Whether a and b, which are equally long, are the same bytes, compared one by one.
+#[inline(always)]
+fn equal_few(a: &[u8], b: &[u8]) -> bool
+    requires { length a.now ≡ length b.now }
+    ensures { result ≡ same_bytes a.now b.now }
 {
-    let x = eight_at(a, i);
-    let y = eight_at(b, i);
-    x == y
-}
-
-// Whether a and b are the same bytes from the place `from` on.
-fn equal_from(a: &[u8], b: &[u8], from: usize) -> bool
-    requires { (from ≤ length a.now) × (length a.now ≡ length b.now) }
-    ensures { result ≡ same_bytes (drop from a.now) (drop from b.now) }
-{
-    let mut i = from;
-    while i < a.len() {
-        let same = is_same_byte(a[i], b[i]);
-        if !same {
-            return false;
-        }
-        i += 1;
-    }
-    true
+    a.iter().zip(b).all(|(x, y)| x == y)
 }
 
 // Whether a and b are the same bytes. They are compared eight at a time, and then what is left.
+// (Tried: `a == b`, with which a lookup in a cache of 64 entries takes 2.3 times plain C's instructions, and 1.5 are promised.)
+#[inline(always)]
 pub fn equal(a: &[u8], b: &[u8]) -> bool
     ensures { result ≡ same_bytes a.now b.now }
 {
     if a.len() != b.len() {
         return false;
     }
-    let mut i = 0;
-    while 8 <= a.len() - i {
-        let same = is_same_eight(a, b, i);
-        if !same {
+    let (words, rest) = a.as_chunks::<8>();
+    let (others, other_rest) = b.as_chunks::<8>();
+    for (k, word) in words.iter().enumerate() {
+        if u64::from_le_bytes(*word) != u64::from_le_bytes(others[k]) {
             return false;
         }
-        i += 8;
     }
-    equal_from(a, b, i)
+    equal_few(rest, other_rest)
 }
 
-// Whether the sixteen bytes of a and of b from i on are the same.
-fn is_same_sixteen(a: &[u8], b: &[u8], i: usize) -> bool
-    requires { (i + 16 ≤ length a.now) × (i + 16 ≤ length b.now) }
-    ensures { result ≡ same_bytes (take 16 (drop i a.now)) (take 16 (drop i b.now)) }
-{
-    let same = is_same_eight(a, b, i);
-    if !same {
-        return false;
-    }
-    is_same_eight(a, b, i + 8)
-}
-
-// Whether the thirty-two bytes of a and of b from i on are the same.
-fn is_same_thirty_two(a: &[u8], b: &[u8], i: usize) -> bool
-    requires { (i + 32 ≤ length a.now) × (i + 32 ≤ length b.now) }
-    ensures { result ≡ same_bytes (take 32 (drop i a.now)) (take 32 (drop i b.now)) }
-{
-    let same = is_same_sixteen(a, b, i);
-    if !same {
-        return false;
-    }
-    is_same_sixteen(a, b, i + 16)
-}
-
-// The same as `equal`, for bytes that may be many: thirty-two are compared a turn, and then what is left. `equal` stays small, so that the compiler
-// puts its code where it is called.
+// The same as `equal`, for bytes that may be many: thirty-two are compared a turn, and then what is left. The code of `equal` is put where it is called.
 pub fn equal_long(a: &[u8], b: &[u8]) -> bool
     ensures { result ≡ same_bytes a.now b.now }
 {
     if a.len() != b.len() {
         return false;
     }
-    let mut i = 0;
-    while 32 <= a.len() - i {
-        let same = is_same_thirty_two(a, b, i);
-        if !same {
+    let (parts, rest) = a.as_chunks::<32>();
+    let (others, other_rest) = b.as_chunks::<32>();
+    for (k, part) in parts.iter().enumerate() {
+        if !equal(part, &others[k]) {
             return false;
         }
-        i += 32;
     }
-    equal(&a[i..], &b[i..])
+    equal(rest, other_rest)
 }
 
 // The index of the first b of s at or after `from`, or the length of s where there is none; `from` where it is past the end.
+#[tactic(auto, using(crate::proofs::Std::index_is_span))]
 pub fn find(s: &[u8], b: u8, from: usize) -> usize
     ensures { result ≡ from + index_of b (drop from s.now) }
 {
-    let mut i = from;
-    while i < s.len() {
-        if s[i] == b {
-            return i;
-        }
-        i += 1;
-    }
-    i
+    past(s, from, |x| x != b)
 }
 
 // Writes the text over the front of the output, and says whether it fits; where it does not, the output is left as it was.
+#[tactic(auto, using(crate::proofs::Std::front_laws))]
 pub fn write_front(text: &[u8], output: &mut [u8]) -> bool
     ensures { (result ≡ leb (length text.now) (length output.old)) × (output.new ≡ wrote_front text.now output.old) }
 {
     if output.len() < text.len() {
         return false;
     }
-    let mut i = 0;
-    while i < text.len() {
-        output[i] = text[i];
-        i += 1;
-    }
+    output[..text.len()].copy_from_slice(text);
     true
 }
 
-// One of two slices.
-pub fn either<'a>(first: bool, x: &'a [u8], y: &'a [u8]) -> &'a [u8]
-    ensures { result.now ≡ cond first x.now y.now }
+// The first place of s at or after `from` whose byte fails the test, or the end of s where none does; `from` where it is past the end.
+#[inline(always)]
+pub fn past<F: Fn(u8) -> bool>(s: &[u8], from: usize, test: F) -> usize
+    requires { F.IsAlwaysCallable test }
+    ensures { (p : ℕ → Bool) → ((b : ℕ) (r : Bool) → b < 256 → F.post test b r → r ≡ p b) → result ≡ from + span_of p (drop from s.now) }
 {
-    if first { x } else { y }
+    for i in from..s.len() {
+        if !test(s[i]) {
+            return i;
+        }
+    }
+    from.max(s.len())
+}
+
+// The same, eight bytes a turn, and then what is left: `mark` gives, of eight bytes as one number, the lowest first, the high bit of each that fails the test.
+#[inline(always)]
+pub fn past_by_eight<M: Fn(u64) -> u64, F: Fn(u8) -> bool>(
+    s: &[u8],
+    from: usize,
+    mark: M,
+    test: F,
+) -> usize
+    requires marked { M.IsAlwaysCallable mark }
+    requires tested { F.IsAlwaysCallable test }
+    ensures { (p : ℕ → Bool)
+        → ((l : List ℕ) (r : ℕ) → length l ≡ 8 → is_bytes l ≡ true → M.post mark (number_of l) r → r ≡ marks p l)
+        → ((b : ℕ) (r : Bool) → b < 256 → F.post test b r → r ≡ p b)
+        → result ≡ from + span_of p (drop from s.now) }
+{
+    if s.len() < from {
+        return from;
+    }
+    let (words, _) = s[from..].as_chunks::<8>();
+    for (k, word) in words.iter().enumerate() {
+        let m = mark(u64::from_le_bytes(*word));
+        if m != 0 {
+            return from + 8 * k + bytes_below(m);
+        }
+    }
+    past(s, from + 8 * words.len(), test)
 }

@@ -13,7 +13,8 @@ use Rattle.verdicts.specs.Verdicts.{is_delivery, is_next_host}
 use Rattle.messages.specs.declared.MessageAnswer.{MessageAnswer}
 use Rattle.messages.specs.declared.MxLookup.{MxLookup}
 use Rattle.messages.specs.declared.MxLookup.TheVariants.{Answered, Failed}
-use Rattle.messages.specs.Hosts.{Host, is_preference, is_host_verdict, is_host_list, hosts_from, hosts_of, in_order, no_host, decided_answer, decided, message_answer, hosts_answer, lists_answer, next_host}
+use Rattle.messages.specs.declared.Host.{Host}
+use Rattle.messages.specs.Hosts.{is_preference, is_host_verdict, is_host_list, hosts_from, hosts_of, in_order, no_host, decided_answer, decided, message_answer, hosts_answer, lists_answer, next_host}
 use Rattle.messages.specs.Order.{comes_before, is_ordered, host_at, Decides, is_decision, Outcome, is_message_answer}
 use Rattle.messages.specs.Order.Outcome.{refused, none, one}
 use Rattle.lists.proofs.Bools.{apart, and_left, and_right}

@@ -11,7 +11,8 @@ use lib.ListN.{length, drop, drop_of_length-le}
 use borrow.Author.Tests.{lt-ltb, le-ltb, eq-eqb, ne_eqb, ltb-true, ltb-false, leb-true, leb-false, eqb-true, eqb-false}
 use Rattle.lists.specs.Bytes.{all}
 use Rattle.lists.proofs.Laws.{drop_next}
-use Rattle.messages.specs.Hosts.{Host, hosts_from, hosts_of, insert, in_order}
+use Rattle.messages.specs.declared.Host.{Host}
+use Rattle.messages.specs.Hosts.{hosts_from, hosts_of, insert, in_order}
 use Rattle.messages.specs.Order.{comes_before, is_ordered, how_many, host_at}
 use Rattle.lists.proofs.Bools.{apart, and_left, and_right, and_intro, and_swap}
 use Rattle.lists.proofs.All.{all_both}

@@ -7,7 +7,8 @@ use native.Mathlib.Omega.{arith}
 use lib.Dec.{eqb}
 use borrow.Author.Tests.{eq-eqb, eqb-true}
 use Rattle.lists.specs.Bytes.{all}
-use Rattle.messages.specs.Hosts.{Host, hosts_of, in_order}
+use Rattle.messages.specs.declared.Host.{Host}
+use Rattle.messages.specs.Hosts.{hosts_of, in_order}
 use Rattle.messages.specs.Order.{comes_before, is_ordered, how_many}
 use Rattle.lists.proofs.Bools.{apart, and_left, and_right}
 use Rattle.lists.proofs.All.{all_more}

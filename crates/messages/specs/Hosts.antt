@@ -3,6 +3,7 @@ use Rattle.std.specs.Prelude.{ℕ, ◌+◌, Bool, cond, ◌&&◌, ◌||◌, List
 use Rattle.lists.specs.Bytes.{within, all}
 use Rattle.numbers.specs.Numbers.{numbers, is_whole}
 use Rattle.verdicts.specs.Verdicts.{is_next_host, is_verdict}
+use Rattle.messages.specs.declared.Host.{Host}
 use Rattle.messages.specs.declared.MessageAnswer.{MessageAnswer}
 use Rattle.messages.specs.declared.MxLookup.{MxLookup}
 use Rattle.messages.specs.declared.MxLookup.TheVariants.{Answered, Failed}
@@ -18,12 +19,6 @@ is_host_verdict v = eqb v 9 || is_verdict v
 -- a host list that 63 does not refuse: neither empty nor over 32, lists of equal length, no preference over 65,535, and no number that is no host verdict
 unfoldable pub is_host_list : List ℕ → List ℕ → Bool
 is_host_list preferences verdicts = within 1 32 (length preferences) && eqb (length verdicts) (length preferences) && all is_preference preferences && all is_host_verdict verdicts
-
--- a host of the list: its preference, its verdict, and its position in the list as given
-pub record Host : Type 0 where
-  pub preference : ℕ
-  pub verdict : ℕ
-  pub position : ℕ
 
 -- the hosts of the two lists, the first of them at position k
 unfoldable pub hosts_from : ℕ → List ℕ → List ℕ → List Host

@@ -4,7 +4,8 @@ use Rattle.std.specs.Prelude.{ℕ, suc, ◌<◌, ◌≡◌, Bool, true, false, c
 use Rattle.lists.specs.Bytes.{all}
 use Rattle.verdicts.specs.Verdicts.{is_delivery, is_next_host}
 use Rattle.messages.specs.declared.MessageAnswer.{MessageAnswer}
-use Rattle.messages.specs.Hosts.{Host, is_host_list, no_host, decided_answer}
+use Rattle.messages.specs.declared.Host.{Host}
+use Rattle.messages.specs.Hosts.{is_host_list, no_host, decided_answer}
 
 -- of two hosts, x comes first: lower preference first, equal ones as given
 unfoldable pub comes_before : Host → Host → Bool

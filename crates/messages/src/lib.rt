@@ -1,10 +1,9 @@
 // The hosts of a message: which of them is tried next, or what the delivery has come to.
 #![tactic(auto)]
 
-ghost use Rattle.std.specs.Prelude.{◌≡◌, ◌<◌, ◌≤◌, length, take};
-ghost use Rattle.numbers.specs.Numbers.{numbers};
+ghost use Rattle.std.specs.Prelude.{◌≡◌, ℕ, List, ◌<◌, ◌≤◌};
 ghost use Rattle.messages.specs.Hosts.{is_host_verdict, no_host, message_answer, hosts_answer, lists_answer, next_host};
-ghost use Rattle.messages.specs.Search.{with_host, decided_by};
+ghost use Rattle.messages.specs.Search.{with_host, decided_by, Gives};
 
 // The number of the answer, and the position of the host that decides, counted from 0 in the list as given; 0 where no host does.
 #[repr(C)]
@@ -21,18 +20,16 @@ pub enum MxLookup {
     Failed,
 }
 
-// The host that decides among those looked at, where there is one.
+// A host of a message: its preference, its verdict, and its position in the list as given.
 #[derive(Clone, Copy)]
-enum Decider {
-    Is {
-        preference: u64,
-        verdict: u64,
-        position: u64,
-    },
-    Nobody,
+struct Host {
+    preference: u64,
+    verdict: u64,
+    position: u64,
 }
 
 // An answer that names no host.
+#[tactic(auto, unfolding(crate::specs::Hosts::no_host))]
 fn no_host(number: u64) -> MessageAnswer
     ensures { result ≡ no_host number }
 {
@@ -42,103 +39,66 @@ fn no_host(number: u64) -> MessageAnswer
     }
 }
 
-// A preference as a wide number.
-fn wide(x: u16) -> u64
-    ensures { (result ≡ x) × (result < 65536) }
-{
-    x as u64
-}
-
 // Whether v is a host verdict. Most verdicts of a list that is walked say "next host".
+#[tactic(auto, using(crate::proofs::Returns::verdict_laws))]
 fn is_host_verdict(v: u64) -> bool
     ensures { result ≡ is_host_verdict v }
 {
-    let next = verdicts::is_next_host(v);
-    if next {
-        return true;
-    }
-    if v == 9 {
-        return true;
-    }
-    verdicts::is_delivery(v)
+    verdicts::is_next_host(v) || v == 9 || verdicts::is_delivery(v)
 }
 
 // The host that decides among those of `later` and one that was given before them.
-fn with_host(preference: u64, verdict: u64, position: u64, later: Decider) -> Decider
-    ensures { result ≡ with_host (record { preference = preference; verdict = verdict; position = position }) later }
+#[tactic(auto, using(crate::proofs::Returns::with_laws))]
+fn with_host(host: Host, later: Option<Host>) -> Option<Host>
+    ensures { result ≡ with_host host later }
 {
-    let next = verdicts::is_next_host(verdict);
-    if next {
+    if verdicts::is_next_host(host.verdict) {
         return later;
     }
-    let Decider::Is {
-        preference: lowest,
-        verdict: _,
-        position: _,
-    } = later
-    else {
-        return Decider::Is {
-            preference,
-            verdict,
-            position,
-        };
-    };
-    if lowest < preference {
-        return later;
-    }
-    Decider::Is {
-        preference,
-        verdict,
-        position,
+    match later {
+        Some(other) if other.preference < host.preference => later,
+        _ => Some(host),
     }
 }
 
 // The answer of the host that decides, or of a list where none does.
-fn decided_by(decider: Decider) -> MessageAnswer
+#[tactic(auto, using(crate::proofs::Returns::decided_laws))]
+fn decided_by(decider: Option<Host>) -> MessageAnswer
     ensures { result ≡ decided_by decider }
 {
-    let Decider::Is {
-        preference: _,
-        verdict,
-        position,
-    } = decider
-    else {
-        return no_host(31);
-    };
-    if verdict == 9 {
-        return MessageAnswer {
-            number: 8,
-            position,
-        };
-    }
-    MessageAnswer {
-        number: verdict,
-        position,
+    match decider {
+        None => no_host(31),
+        Some(host) => MessageAnswer {
+            number: if host.verdict == 9 { 8 } else { host.verdict },
+            position: host.position,
+        },
     }
 }
 
-// The answer of the first `count` hosts. They are looked at from the last to the first, so that of equal preferences the first given stays.
-fn walk_hosts(preferences: [u16; 32], verdicts: [u8; 32], count: usize) -> MessageAnswer
-    requires { (0 < count) × (count ≤ 32) }
-    ensures { result ≡ message_answer (take count preferences) (take count verdicts) }
+// The answer of `count` hosts, by closures that give the preference and the verdict at a place. The hosts are looked at from the last to the first, so that of equal
+// preferences the first given stays.
+#[inline(always)]
+fn walk_hosts<P: Fn(usize) -> u64, V: Fn(usize) -> u64>(
+    count: usize,
+    preference: P,
+    verdict: V,
+) -> MessageAnswer
+    requires counted { (0 < count) × (count ≤ 32) }
+    requires preferences { (k : ℕ) → k < count → P.pre preference k }
+    requires verdicts { (k : ℕ) → k < count → V.pre verdict k }
+    ensures { (ps vs : List ℕ) → Gives count (P.post preference) ps → Gives count (V.post verdict) vs → result ≡ message_answer ps vs }
 {
-    let mut decider = Decider::Nobody;
-    let mut k = count;
-    while 0 < k {
-        let j = k - 1;
-        let p = wide(preferences[j]);
-        let v = lists::wide(verdicts[j]);
-        let next = verdicts::is_next_host(v);
-        if next {
-            k = j;
-        } else {
-            let right = is_host_verdict(v);
-            if !right {
-                return no_host(63);
-            }
-            decider = with_host(p, v, j as u64, decider);
-            k = j;
+    let mut decider = None;
+    for k in (0..count).rev() {
+        let host = Host {
+            preference: preference(k),
+            verdict: verdict(k),
+            position: k as u64,
+        };
+        if 65535 < host.preference || !is_host_verdict(host.verdict) {
+            return no_host(63);
         }
+        decider = with_host(host, decider);
     }
     decided_by(decider)
 }
@@ -147,71 +107,36 @@ fn walk_hosts(preferences: [u16; 32], verdicts: [u8; 32], count: usize) -> Messa
 pub fn first_host(preferences: [u16; 32], verdicts: [u8; 32], count: usize) -> MessageAnswer
     ensures { result ≡ hosts_answer count preferences verdicts }
 {
-    if 32 < count {
+    if !(1..=32).contains(&count) {
         return no_host(63);
     }
-    if count == 0 {
-        return no_host(63);
-    }
-    walk_hosts(preferences, verdicts, count)
-}
-
-// The answer of two lists of `count` numbers, which are read into two arrays. A number that doesn't fit there is no preference, or no verdict: 63.
-// Each pair of numbers is read at the end of the turn before, since the compiler then reads the four bytes of a number by one instruction: right before the tests it would read them one by one.
-fn read_hosts(preferences: &[u8], verdicts: &[u8], count: usize) -> MessageAnswer
-    requires { (count ≡ length (numbers preferences.now)) × (count ≡ length (numbers verdicts.now)) × (0 < count) × (count ≤ 32) }
-    ensures { result ≡ message_answer (numbers preferences.now) (numbers verdicts.now) }
-{
-    let mut p = [0u16; 32];
-    let mut v = [0u8; 32];
-    let mut a = numbers::number(preferences, 0);
-    let mut b = numbers::number(verdicts, 0);
-    let mut k = 0;
-    loop {
-        if 65535 < a {
-            return no_host(63);
-        }
-        if 255 < b {
-            return no_host(63);
-        }
-        p[k] = a as u16;
-        v[k] = b as u8;
-        k += 1;
-        if count <= k {
-            return first_host(p, v, count);
-        }
-        a = numbers::number(preferences, k);
-        b = numbers::number(verdicts, k);
-    }
+    walk_hosts(
+        count,
+        |k| u64::from(preferences[k]),
+        |k| u64::from(verdicts[k]),
+    )
 }
 
 // The answer of the two lists, where the MX lookup was answered.
 fn answer_of_lists(preferences: &[u8], verdicts: &[u8]) -> MessageAnswer
     ensures { result ≡ lists_answer preferences.now verdicts.now }
 {
-    let preferences_whole = numbers::is_whole(preferences);
-    if !preferences_whole {
-        return no_host(63);
-    }
-    let verdicts_whole = numbers::is_whole(verdicts);
-    if !verdicts_whole {
+    if !numbers::is_whole(preferences) || !numbers::is_whole(verdicts) {
         return no_host(63);
     }
     let count = numbers::count(preferences);
-    if count < 1 {
+    if !(1..=32).contains(&count) || numbers::count(verdicts) != count {
         return no_host(63);
     }
-    if 32 < count {
-        return no_host(63);
-    }
-    let given = numbers::count(verdicts);
-    if given != count {
-        return no_host(63);
-    }
-    read_hosts(preferences, verdicts, count)
+    walk_hosts(
+        count,
+        |k| numbers::number(preferences, k),
+        |k| numbers::number(verdicts, k),
+    )
 }
 
 // The answer of a message: how its MX lookup ended, and the lists of its hosts' preferences and verdicts.
+#[tactic(auto, unfolding(crate::specs::Hosts::next_host))]
 pub fn next_host(lookup: MxLookup, preferences: &[u8], verdicts: &[u8]) -> MessageAnswer
     ensures { result ≡ next_host lookup preferences.now verdicts.now }
 {

@@ -1,4 +1,4 @@
--- `is_name`: a turn of its loop, and its returns. The loop stands at `start`; e is where `label_end` found the first byte that is of no label. Assumes nothing.
+-- `is_name`: a turn of its loop, and its returns. A label begins at `start`; e is the first place after it where a byte stands that is of no label. Assumes nothing.
 use Prim.Native.Nat.{ℕ, ◌+◌, ◌-◌, ◌<◌, ◌≤◌}
 use mathlib.Core.Path.{◌≡◌, refl, sym, ◌∙◌}
 use mathlib.Core.Bool.{Bool, true, false, not, ◌&&◌, and-true, and-false}
@@ -9,8 +9,7 @@ use native.Mathlib.Omega.{arith}
 use lib.Dec.{eqb, ltb}
 use lib.ListN.{length, get_or, take, drop, length-drop}
 use lib.Seq.{get_or-drop}
-use borrow.Author.Rules.{rules}
-use borrow.Author.Tests.{not-true, not-false, ltb-true, ltb-false, eqb-true, eqb-false}
+use borrow.Author.Tests.{ltb-true, ltb-false, eqb-true, eqb-false}
 use Rattle.lists.specs.Bytes.{within, all}
 use Rattle.lists.specs.Span.{span_of}
 use Rattle.lists.specs.Split.{index_of, split}
@@ -100,4 +99,7 @@ module _ (s : List ℕ) (start e : ℕ) (stops : e ≡ start + span_of label_byt
         go true true p q = no_label (found_dot (ltb-true e (length s) p) (eqb-true (get_or s e 0) 46 q))
         go true false p q = name_byte inv (ltb-true e (length s) p) (eqb-false (get_or s e 0) 46 q)
 
-pub ruleset name_laws = (name_next, name_good, name_bad, name_byte, end_after, end_within, not-true, not-false, rules)
+-- at the end of s: r is what `has_label_ends` gave of what stands from `start` on
+pub name_last : (s : List ℕ) (start : ℕ) → length s ≡ start + span_of label_byte (drop start s) → start ≤ length s → all is_label (split 46 s) ≡ all is_label (split 46 (drop start s)) → 1 ≤ length s → length s ≤ 253 → (r : Bool) → r ≡ label_ends (take (length s - start) (drop start s)) → r ≡ is_name s
+name_last s start stops w inv small large true gave = name_good s start (length s) stops w true gave inv refl (omega arith) small large
+name_last s start stops w inv small large false gave = name_bad s start (length s) stops w false gave inv refl

@@ -181,23 +181,20 @@ fewer_differ a b h = go (same_text a b) refl
     go true e = absurd (let p : (comparison a b).pairs ≡ length a = ap (λ (c : Comparison). c.pairs) (all_pairs a b e) in omega (arith, h, p))
     go false e = refl
 
--- `compare_pairs`: `unread` bytes of each text are not read yet, and `pairs` pairs are; r is what `is_same_letter` gave of the last pair not yet read
-module _ (a b : List ℕ) (pairs unread : ℕ) (l : length a ≡ length b) where
-  pub unread_all : unread ≡ length a → same_text (drop unread a) (drop unread b) ≡ true
+-- `compare_pairs`: `unread` bytes of each text are not read yet; r is what `is_same_letter` gave of the last pair of them
+module _ (a b : List ℕ) (l : length a ≡ length b) where
+  pub unread_all : same_text (drop (length a) a) (drop (length a) b) ≡ true
   unfolding agree
-  unread_all e =
-      let m : length a ≤ unread = omega arith in
-      let n : length b ≤ unread = omega arith in
+  unread_all =
+      let m : length a ≤ length a = omega arith in
+      let n : length b ≤ length a = omega arith in
       rw (drop_of_length-le a m, drop_of_length-le b n)
 
-  module _ (inv : same_text (drop unread a) (drop unread b) ≡ true) (sum : pairs + unread ≡ length a) where
-    pub unread_none : unread ≤ 0 → record { equal = true; pairs = pairs } ≡ comparison a b
-    unread_none h =
-        let z : unread ≡ 0 = omega arith in
-        let k : pairs ≡ length a = omega arith in
-        rw k (sym (all_pairs a b (rw z at inv)))
+  module _ (unread : ℕ) (inv : same_text (drop unread a) (drop unread b) ≡ true) where
+    pub unread_none : unread ≤ 0 → record { equal = true; pairs = length a } ≡ comparison a b
+    unread_none h = let z : unread ≡ 0 = omega arith in sym (all_pairs a b (rw z at inv))
 
-    module _ (h : 0 < unread) (r : Bool) (gave : r ≡ same_letter (get_or a (unread - 1) 0) (get_or b (unread - 1) 0)) where
+    module _ (h : 0 < unread) (w : unread ≤ length a) (r : Bool) (gave : r ≡ same_letter (get_or a (unread - 1) 0) (get_or b (unread - 1) 0)) where
       back : (unread - 1) + 1 ≡ unread
       back = omega arith
 
@@ -205,10 +202,8 @@ module _ (a b : List ℕ) (pairs unread : ℕ) (l : length a ≡ length b) where
       unfolding agree
       unread_same t = rw (drop_next a (unread - 1) (omega arith), drop_next b (unread - 1) (omega arith), sym gave ∙ t, back) inv
 
-      pub unread_differ : r ≡ false → record { equal = false; pairs = pairs + 1 } ≡ comparison a b
-      unread_differ f =
-          let k : pairs + 1 ≡ length a - (unread - 1) = omega arith in
-          rw k (sym (to_the_difference a b (record { one_length = l; place = unread - 1; inside = omega arith; differs = sym gave ∙ f; same_after = rw back inv })))
+      pub unread_differ : r ≡ false → record { equal = false; pairs = length a - (unread - 1) } ≡ comparison a b
+      unread_differ f = sym (to_the_difference a b (record { one_length = l; place = unread - 1; inside = omega arith; differs = sym gave ∙ f; same_after = rw back inv }))
 
 pub ruleset pairs_laws = (unread_all, unread_none, unread_same, unread_differ, not-true, not-false, rules)
 

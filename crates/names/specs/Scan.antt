@@ -1,15 +1,10 @@
--- How the code tests and compares in one pass: not the paper's words, but the same answers (proofs/Start.antt, proofs/Name.antt, proofs/Cover.antt and proofs/Match.antt join them).
+-- How the code tests and compares in one pass: not the paper's words, but the same answers (proofs/Name.antt, proofs/Cover.antt and proofs/Match.antt join them).
 use Prim.Native.Char.{code}
 use Rattle.std.specs.Prelude.{ℕ, ◌-◌, Bool, cond, not, ◌&&◌, List, eqb, ltb, length, get_or, drop}
 use Rattle.lists.specs.Bytes.{within}
 use Rattle.lists.specs.Equal.{same_text}
 use Rattle.lists.specs.Split.{index_of}
-use Rattle.fields.specs.Name.{letter_or_digit}
 use Rattle.names.specs.Name.{is_starred, after_first}
-
--- a letter or a digit stands at the place, with which a label starts
-unfoldable pub starts_label : List ℕ → ℕ → Bool
-starts_label s at = ltb at (length s) && letter_or_digit (get_or s at 0)
 
 -- what a label asks besides its bytes: 1 to 63 of them, no hyphen at either end
 unfoldable pub label_ends : List ℕ → Bool

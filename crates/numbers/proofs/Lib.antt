@@ -1,5 +1,6 @@
 pub mod Numbers
-pub mod Pieces
+pub mod Cut
+pub mod Iterate
 pub mod Loop
 pub mod Written
 mod Worked

@@ -15,7 +15,7 @@ use Rattle.lists.proofs.Bools.{and_left, and_right}
 use Rattle.lists.proofs.All.{all_map, all_more}
 use Rattle.numbers.specs.Numbers.{word, numbers, is_whole, sum, at_most, written, eight}
 use Rattle.numbers.specs.Pieces.{cut, sums_to, up_to}
-use Rattle.numbers.proofs.Pieces.{up_to_true}
+use Rattle.numbers.proofs.Cut.{up_to_true}
 
 four_is : (n : ℕ) → n < 4294967296 → word (n / 16777216) (n / 65536 % 256) (n / 256 % 256) (n % 256) ≡ n
 four_is n h = omega arith

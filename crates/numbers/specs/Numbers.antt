@@ -1,5 +1,6 @@
 -- Document 01, "Answer numbers": lists of numbers are bytes, four each, high first.
 use Rattle.std.specs.Prelude.{ℕ, ◌+◌, ◌*◌, ◌/◌, ◌%◌, Bool, List, [], ◌∷◌, eqb, leb, length}
+use Rattle.numbers.specs.declared.Words.{Words}
 
 -- the number of four bytes, the highest first
 abbrev pub word : ℕ → ℕ → ℕ → ℕ → ℕ
@@ -43,3 +44,7 @@ eight n =
     ∷ n / 256 % 256
     ∷ n % 256
     ∷ []
+
+-- the numbers that are still to come
+abbrev pub words_in : Words → List ℕ
+words_in w = numbers w.list.now

@@ -1,6 +1,7 @@
 -- Byte strings that stand one after another, with a list of their lengths: RDATAs, TLSA records, certificates, DNS-IDs.
 use Rattle.std.specs.Prelude.{ℕ, ◌+◌, Bool, cond, ◌&&◌, List, [], ◌∷◌, eqb, leb, length, take, drop}
 use Rattle.std.proofs.Math.Option.{Option, none, some}
+use Rattle.numbers.specs.declared.Pieces.{Pieces}
 use Rattle.numbers.specs.Numbers.{numbers, is_whole, sum}
 
 -- s cut into pieces of these lengths, one after another, as far as s goes
@@ -28,3 +29,7 @@ numbered f k (x ∷ xs) = f k x ∷ numbered f (k + 1) xs
 -- where the piece of n bytes that starts at `at` ends, of `total` bytes: no further than these go
 unfoldable pub end_of : ℕ → ℕ → ℕ → ℕ
 end_of total at n = cond (leb (at + n) total) (at + n) total
+
+-- the pieces that are still to come
+abbrev pub pieces_in : Pieces → List (List ℕ)
+pieces_in p = cut p.bytes.now (numbers p.lengths.now)

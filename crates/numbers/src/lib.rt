@@ -2,11 +2,13 @@
 #![tactic(auto)]
 
 ghost use Rattle.std.specs.Prelude.{◌≡◌, cond, ◌&&◌, ◌*◌, ◌+◌, ◌%◌, ◌<◌, ltb, length, get_or, take, drop};
+ghost use Rattle.std.specs.Iterator.{YieldsFirst, YieldsFirstRef, item_count};
 ghost use Rattle.lists.specs.Bytes.{all};
-ghost use Rattle.numbers.specs.Numbers.{numbers, is_whole, at_most, eight};
-ghost use Rattle.numbers.specs.Pieces.{sums_to, end_of};
+ghost use Rattle.numbers.specs.Numbers.{numbers, is_whole, at_most, eight, words_in};
+ghost use Rattle.numbers.specs.Pieces.{sums_to, end_of, pieces_in};
 
 // Whether the list has no left-over bytes.
+#[tactic(auto, unfolding(crate::specs::Numbers::is_whole))]
 pub fn is_whole(list: &[u8]) -> bool
     ensures { result ≡ is_whole list.now }
 {
@@ -14,6 +16,7 @@ pub fn is_whole(list: &[u8]) -> bool
 }
 
 // How many numbers the list has.
+#[tactic(auto, using(crate::proofs::Numbers::count_is))]
 pub fn count(list: &[u8]) -> usize
     ensures { result ≡ length (numbers list.now) }
 {
@@ -24,106 +27,107 @@ pub fn count(list: &[u8]) -> usize
 pub fn number(list: &[u8], k: usize) -> u64
     ensures { (result ≡ get_or (numbers list.now) k 0) × (result < 4294967296) }
 {
-    if list.len() / 4 <= k {
-        return 0;
+    let (words, _) = list.as_chunks::<4>();
+    match words.get(k) {
+        Some(word) => u64::from(u32::from_be_bytes(*word)),
+        None => 0,
     }
-    let i = k * 4;
-    let a = lists::wide(list[i]);
-    let b = lists::wide(list[i + 1]);
-    let c = lists::wide(list[i + 2]);
-    let d = lists::wide(list[i + 3]);
-    ((a * 256 + b) * 256 + c) * 256 + d
-}
-
-// The larger of two numbers.
-fn larger(x: u64, y: u64) -> u64
-    ensures { result ≡ cond (ltb x y) y x }
-{
-    if x < y {
-        return y;
-    }
-    x
 }
 
 // Whether the list has no left-over bytes, its numbers sum to the total, and each is at most the bound: in one pass. What is left of the total is counted down, so that no sum is too large, and the largest is held against the bound at the end.
+#[tactic(auto, using(crate::proofs::Numbers::fits_laws))]
 pub fn fits(list: &[u8], total: usize, bound: u64) -> bool
     ensures { result ≡ (sums_to list.now total && all (at_most bound) (numbers list.now)) }
 {
-    let whole = is_whole(list);
-    if !whole {
+    if !is_whole(list) {
         return false;
     }
-    let n = count(list);
     let mut rest = total as u64;
     let mut most = 0;
-    let mut k = 0;
-    while k < n {
-        let v = number(list, k);
-        if rest < v {
+    for word in (Words { list }) {
+        let n = u64::from(word);
+        if rest < n {
             return false;
         }
-        rest -= v;
-        most = larger(most, v);
-        k += 1;
+        rest -= n;
+        most = most.max(n);
     }
-    if bound < most {
-        return false;
-    }
-    rest == 0
+    most <= bound && rest == 0
 }
 
 // Where the piece of n bytes that starts at `at` ends, of `total` bytes: no further than these go.
+#[tactic(auto, using(crate::proofs::Cut::end_is))]
 pub fn end_of(total: usize, at: usize, n: u64) -> usize
     ensures { result ≡ end_of total at n }
 {
-    if total < at {
-        return total;
-    }
-    let m = n as usize;
-    if total - at < m {
-        return total;
-    }
-    at + m
+    at.saturating_add(n as usize).min(total)
 }
 
 // Where the piece at place k, which starts at `at`, ends, of `total` bytes.
 pub fn end_at(lengths: &[u8], k: usize, at: usize, total: usize) -> usize
     ensures { result ≡ end_of total at (get_or (numbers lengths.now) k 0) }
 {
-    let n = number(lengths, k);
-    end_of(total, at, n)
+    end_of(total, at, number(lengths, k))
 }
 
 // The n bytes of s from `start` on, as far as s goes.
+#[tactic(auto, using(crate::proofs::Cut::part_laws))]
 pub fn part(s: &[u8], start: usize, n: u64) -> &[u8]
     ensures { result.now ≡ take n (drop start s.now) }
 {
-    if s.len() < start {
-        return &s[0..0];
-    }
-    let e = end_of(s.len(), start, n);
-    &s[start..e]
-}
-
-// The last byte of a number.
-fn low_byte(n: u64) -> u8
-    ensures { result ≡ n % 256 }
-{
-    (n % 256) as u8
+    let start = start.min(s.len());
+    &s[start..end_of(s.len(), start, n)]
 }
 
 // The eight bytes of a number, the highest first.
+#[tactic(auto, unfolding(crate::specs::Numbers::eight))]
 pub fn eight_bytes(n: u64) -> [u8; 8]
     ensures { result ≡ eight n }
 {
-    [
-        low_byte(n / 72057594037927936),
-        low_byte(n / 281474976710656),
-        low_byte(n / 1099511627776),
-        low_byte(n / 4294967296),
-        low_byte(n / 16777216),
-        low_byte(n / 65536),
-        low_byte(n / 256),
-        low_byte(n),
-    ]
+    n.to_be_bytes()
+}
+
+// Byte strings that stand one after another, with a list of their lengths: an iterator over them, as far as the bytes go.
+#[derive(Clone, Copy)]
+pub struct Pieces<'a> {
+    pub bytes: &'a [u8],
+    pub lengths: &'a [u8],
+}
+
+impl<'a> Iterator for Pieces<'a> {
+    type Item = &'a [u8];
+
+    ghost next_gives = { YieldsFirstRef pieces_in };
+
+    ghost remaining = { item_count pieces_in };
+
+    fn next(&mut self) -> Option<&'a [u8]> {
+        let (length, lengths) = self.lengths.split_first_chunk::<4>()?;
+        let n = u32::from_be_bytes(*length) as usize;
+        let end = n.min(self.bytes.len());
+        let piece = &self.bytes[..end];
+        self.bytes = &self.bytes[end..];
+        self.lengths = lengths;
+        Some(piece)
+    }
+}
+
+// The four-byte numbers of a list, one after another, as `numbers` reads them.
+#[derive(Clone, Copy)]
+pub struct Words<'a> {
+    pub list: &'a [u8],
+}
+
+impl<'a> Iterator for Words<'a> {
+    type Item = u32;
+
+    ghost next_gives = { YieldsFirst words_in };
+
+    ghost remaining = { item_count words_in };
+
+    fn next(&mut self) -> Option<u32> {
+        let (first, rest) = self.list.split_first_chunk::<4>()?;
+        self.list = rest;
+        Some(u32::from_be_bytes(*first))
+    }
 }

@@ -8,7 +8,6 @@ use native.Mathlib.Omega.{arith}
 use lib.Dec.{eqb, leb, ltb}
 use lib.ListN.{length, get_or, take, drop, length-append, length-drop, take-append-drop}
 use lib.Seq.{take_all, take-append-le, length-take-le, drop-drop, get_or-take, get_or-append_seam}
-use borrow.Author.Rules.{rules}
 use borrow.Author.Tests.{lt-ltb, le-ltb, ltb-true, ltb-false, le-leb, lt-leb, leb-true, leb-false, eqb-true}
 use Rattle.lists.specs.Bytes.{all}
 use Rattle.lists.specs.Span.{span_of}
@@ -18,13 +17,12 @@ use Rattle.lists.proofs.Span.{span_within, span_reaches, span_index}
 use Rattle.lists.proofs.Split.{index_there, index_append, index_beyond, index_lacks, index_take}
 use Rattle.lists.proofs.Bools.{and_both, never}
 use Rattle.lists.proofs.All.{all_at, all_lacks}
-use Rattle.fields.specs.declared.Field.{Field}
+use Rattle.std.specs.Prelude.{Option, Some, None, Result, Ok, Err}
 use Rattle.fields.specs.Name.{letter_or_digit, name_byte, before, after, has_name, field_at}
 use Rattle.fields.proofs.Name.{has_inside, has_name_lem, has_whole, named_has, named_place, named_after, named_inside, named_rest, malformed_has, name_bytes}
 use Rattle.policies.specs.declared.Cause.{Cause}
 use Rattle.policies.specs.declared.Seen.{Seen}
 use Rattle.policies.specs.declared.Step.{Step}
-use Rattle.policies.specs.declared.Turn.{Turn}
 use Rattle.policies.specs.Texts.{printable}
 use Rattle.policies.specs.Fields.{is_line}
 use Rattle.policies.specs.Reader.{text_end, take_line, line_end, line_at, placed, turn_at}
@@ -113,13 +111,13 @@ has_same : (s : List ℕ) (at : ℕ) → has_name 58 (line_at s at) ≡ has_name
 has_same s at = ap (has_name 58) (line_is s at) ∙ line_name (drop at s)
 
 -- `take_line`: f is what `name_end` gave
-module _ (s : List ℕ) (at : ℕ) (f : Field) (g : f ≡ field_at 58 s at) where
-  pub turn_malformed : (h : List ℕ) (x : Bool) (r : Seen) → f ≡ Field.Malformed → Turn.Broken Cause.Form ≡ turn_at h x r s at
+module _ (s : List ℕ) (at : ℕ) (f : Option ℕ) (g : f ≡ field_at 58 s at) where
+  pub turn_malformed : (h : List ℕ) (x : Bool) (r : Seen) → f ≡ None → Err Cause.Form ≡ turn_at h x r s at
   unfolding turn_at take_line is_line placed
   turn_malformed h x r e = rw (has_same s at, malformed_has 58 s at f g e)
 
-  module _ (colon : ℕ) (e : f ≡ Field.Named colon) where
-    pub turn_named : Field.Named colon ≡ field_at 58 s at
+  module _ (colon : ℕ) (e : f ≡ Some colon) where
+    pub turn_named : Some colon ≡ field_at 58 s at
     turn_named = sym e ∙ g
 
     pub turn_after : at ≤ colon
@@ -128,18 +126,18 @@ module _ (s : List ℕ) (at : ℕ) (f : Field) (g : f ≡ field_at 58 s at) wher
     pub turn_inside : colon < length s
     turn_inside = named_inside 58 s at f g colon e
 
-pub ruleset turn_laws = (turn_malformed, turn_named, turn_after, turn_inside, rules)
+pub ruleset turn_laws = (turn_malformed, turn_named, turn_after, turn_inside)
 
 -- `take_named`: p, e and t are what its first three calls gave
-module _ (s : List ℕ) (at colon : ℕ) (named : Field.Named colon ≡ field_at 58 s at) (before_end : colon < length s) where
+module _ (s : List ℕ) (at colon : ℕ) (named : Some colon ≡ field_at 58 s at) (before_end : colon < length s) where
   has : has_name 58 (drop at s) ≡ true
-  has = named_has 58 s at (Field.Named colon) named colon refl
+  has = named_has 58 s at (Some colon) named colon refl
 
   place : colon ≡ at + index_of 58 (drop at s)
-  place = named_place 58 s at (Field.Named colon) named colon refl
+  place = named_place 58 s at (Some colon) named colon refl
 
   rest : drop (colon + 1) s ≡ after 58 (drop at s)
-  rest = named_rest 58 s at (Field.Named colon) named colon refl
+  rest = named_rest 58 s at (Some colon) named colon refl
 
   -- the line's end comes after its colon
   end_after : at + index_of 10 (drop at s) ≡ colon + 1 + index_of 10 (drop (colon + 1) s)
@@ -205,21 +203,17 @@ module _ (s : List ℕ) (at colon : ℕ) (named : Field.Named colon ≡ field_at
             go false k low = lt-leb t p (omega (arith, leb-false (t - (colon + 1)) (span_of printable (drop (colon + 1) s)) k)) ∙ sym k
 
         -- the turn by the line's step
-        module _ (h : List ℕ) (y : Bool) (r : Seen) (st : Step) (g : st ≡ take_line h y r (take (t - at) (drop at s))) where
+        module _ (h : List ℕ) (y : Bool) (r : Seen) (st : Result Step Cause) (g : st ≡ take_line h y r (take (t - at) (drop at s))) where
           turn_is : placed st (e + 1) ≡ turn_at h y r s at
           unfolding turn_at line_end
           turn_is = rw (g, line_here, end_is)
 
-          pub turn_broken : (c : Cause) → st ≡ Step.Broken c → Turn.Broken c ≡ turn_at h y r s at
+          pub turn_broken : (c : Cause) → st ≡ Err c → Err c ≡ turn_at h y r s at
           unfolding placed
           turn_broken c k = rw k at turn_is
 
-          pub turn_pattern : (z : Bool) → st ≡ Step.Pattern z → Turn.Pattern z (e + 1) ≡ turn_at h y r s at
+          pub turn_on : (q : Step) → st ≡ Ok q → Ok (record { 0 = q; 1 = e + 1 }) ≡ turn_at h y r s at
           unfolding placed
-          turn_pattern z k = rw k at turn_is
+          turn_on q k = rw k at turn_is
 
-          pub turn_next : (q : Seen) → st ≡ Step.Next q → Turn.Next q (e + 1) ≡ turn_at h y r s at
-          unfolding placed
-          turn_next q k = rw k at turn_is
-
-pub ruleset named_laws = (p_within, named_start, named_end, line_has, line_colon, line_inside, line_known, turn_broken, turn_pattern, turn_next, rules)
+pub ruleset named_laws = (p_within, named_start, named_end, line_has, line_colon, line_inside, line_known, turn_broken, turn_on)

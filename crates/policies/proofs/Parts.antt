@@ -163,7 +163,7 @@ module _ (s : List ℕ) (at : ℕ) where
       pub mx_third : get_or s (at + 1) 0 ≡ 120 → eqb (get_or s (at + 2) 0) 58 ≡ is_named (text "mx") (line_at s at)
       mx_third x = sym (by_bytes ∙ rw (eq-eqb (get_or s at 0) 109 m, eq-eqb (get_or s (at + 1) 0) 120 x) (and-true (eqb (get_or s (at + 2) 0) 58)))
 
-pub ruleset mx_at_laws = (mx_outside, mx_short, mx_first, mx_second, mx_third, rules)
+pub ruleset mx_at_laws = (mx_outside, mx_short, mx_first, mx_second, mx_third)
 
 -- `line_value`: c is what `find` gave
 module _ (l : List ℕ) (c : ℕ) (found : c ≡ 0 + index_of 58 (drop 0 l)) where

@@ -3,18 +3,16 @@ use Prim.Native.Nat.{ℕ, ◌+◌, ◌-◌, ◌<◌, ◌≤◌}
 use mathlib.Core.Path.{◌≡◌, refl, sym, ◌∙◌}
 use mathlib.Core.Bool.{Bool, true, false, cond, not, ◌&&◌, and-false}
 use mathlib.Core.List.{List}
-use mathlib.Core.Option.{Option, none, some}
+use Rattle.std.specs.Prelude.{Result, Ok, Err}
 use native.Mathlib.Omega.{arith}
 use lib.Dec.{eqb, leb}
 use lib.ListN.{length, get_or, take, drop, length-drop}
 use lib.Seq.{drop-drop, get_or-take, get_or-drop}
 use borrow.Author.Rules.{rules}
-use borrow.Author.Tests.{not-true, not-false, ne_eqb, leb-true}
+use borrow.Author.Tests.{ne_eqb, leb-true}
 use Rattle.lists.specs.Bytes.{all}
-use Rattle.lists.specs.Equal.{same_bytes}
 use Rattle.lists.specs.Span.{span_of}
 use Rattle.lists.specs.Split.{index_of}
-use Rattle.lists.specs.Text.{text}
 use Rattle.lists.proofs.Laws.{take_rest}
 use Rattle.lists.proofs.Trim.{trim_le, trim_length, trim_last}
 use Rattle.lists.proofs.Span.{span_le, span_stops}
@@ -26,73 +24,21 @@ use Rattle.fields.specs.Name.{after, has_name}
 use Rattle.fields.specs.Blank.{blank, unblanked}
 use Rattle.policies.specs.declared.Cause.{Cause}
 use Rattle.policies.specs.declared.Kind.{Kind}
-use Rattle.policies.specs.declared.MaybeMode.{MaybeMode}
-use Rattle.policies.specs.declared.MaybeAge.{MaybeAge}
 use Rattle.policies.specs.declared.Seen.{Seen}
 use Rattle.policies.specs.declared.Step.{Step}
 use Rattle.policies.specs.Texts.{printable, is_text, is_value}
-use Rattle.policies.specs.Fields.{name_of, value_of, is_line, is_version, mode_of, age_of}
-use Rattle.policies.specs.Reader.{stripped_value, kind_of, held_mode, held_age, holds_mode, holds_age, new_mode, new_age, take_version, take_mode, take_age, take_mx, take_field, take_line}
+use Rattle.policies.specs.Fields.{name_of, value_of, is_line}
+use Rattle.policies.specs.Reader.{stripped_value, kind_of, take_mx, take_field, take_line}
 use Rattle.policies.proofs.Texts.{printable_text}
-
--- `take_version`, `take_mode`, `take_age` and `take_mx`: r is what was seen before the value v
-module _ (r : Seen) (v : List ℕ) where
-  pub version_had : r.version ≡ true → Step.Next r ≡ take_version r v
-  unfolding take_version
-  version_had h = cc
-
-  module _ (h : r.version ≡ false) (b : Bool) (g : b ≡ same_bytes v (text "STSv1")) where
-    pub version_bad : b ≡ false → Step.Broken Cause.Version ≡ take_version r v
-    unfolding take_version is_version
-    version_bad e = cc
-
-    pub version_good : b ≡ true → Step.Next (record { version = true; mode = r.mode; age = r.age }) ≡ take_version r v
-    unfolding take_version is_version
-    version_good e = cc
-
-  module _ (h : Bool) (held : h ≡ holds_mode r.mode) where
-    pub mode_had : h ≡ true → Step.Next r ≡ take_mode r v
-    unfolding take_mode
-    mode_had e = cc
-
-    module _ (f : h ≡ false) (m : MaybeMode) (g : m ≡ held_mode (mode_of v)) (b : Bool) (good : b ≡ holds_mode m) where
-      pub mode_bad : b ≡ false → Step.Broken Cause.Mode ≡ take_mode r v
-      unfolding take_mode new_mode
-      mode_bad e = cc
-
-      pub mode_good : b ≡ true → Step.Next (record { version = r.version; mode = m; age = r.age }) ≡ take_mode r v
-      unfolding take_mode new_mode
-      mode_good e = cc
-
-  pub age_had : (n : ℕ) → r.age ≡ MaybeAge.Is n → Step.Next r ≡ take_age r v
-  unfolding take_age holds_age
-  age_had n h = rw h
-
-  module _ (h : r.age ≡ MaybeAge.Nothing) (a : MaybeAge) (g : a ≡ held_age (age_of v)) where
-    pub age_bad : a ≡ MaybeAge.Nothing → Step.Broken Cause.MaxAge ≡ take_age r v
-    unfolding take_age holds_age held_age new_age
-    age_bad e = let k : holds_age r.age ≡ false = rw h in rw k (go (age_of v) (sym g ∙ e))
-      where
-        go : (o : Option ℕ) → held_age o ≡ MaybeAge.Nothing → Step.Broken Cause.MaxAge ≡ new_age r o
-        go none k = refl
-        go (some n) k = never cc
-
-    pub age_good : (n : ℕ) → a ≡ MaybeAge.Is n → Step.Next (record { version = r.version; mode = r.mode; age = a }) ≡ take_age r v
-    unfolding take_age holds_age held_age new_age
-    age_good n e = let k : holds_age r.age ≡ false = rw h in rw k (go (age_of v) g)
-      where
-        go : (o : Option ℕ) → a ≡ held_age o → Step.Next (record { version = r.version; mode = r.mode; age = a }) ≡ new_age r o
-        go none k = never cc
-        go (some m) k = rw k
 
 -- `take_mx`: b is what `is_pattern` gave, r what `read_pattern` gave
 module _ (h : List ℕ) (x : Bool) (v : List ℕ) where
   module _ (f : x ≡ true) (b : Bool) (g : b ≡ is_pattern v) where
-    pub mx_listed_bad : b ≡ false → Step.Broken Cause.Mx ≡ take_mx h x v
+    pub mx_listed_bad : b ≡ false → Err Cause.Mx ≡ take_mx h x v
     unfolding take_mx
     mx_listed_bad e = cc
 
-    pub mx_listed : b ≡ true → Step.Pattern true ≡ take_mx h x v
+    pub mx_listed : b ≡ true → Ok (Step.Pattern true) ≡ take_mx h x v
     unfolding take_mx
     mx_listed e = cc
 
@@ -108,49 +54,19 @@ module _ (h : List ℕ) (x : Bool) (v : List ℕ) where
     unfolding pattern_for
     cases = read_cases (is_pattern v) (matches_name v h) r g
 
-    pub mx_malformed : r ≡ Pattern.Malformed → Step.Broken Cause.Mx ≡ take_mx h x v
+    pub mx_malformed : r ≡ Pattern.Malformed → Err Cause.Mx ≡ take_mx h x v
     unfolding take_mx
     mx_malformed e = rw (cases.0 e)
 
-    pub mx_matching : r ≡ Pattern.Matching → Step.Pattern true ≡ take_mx h x v
+    pub mx_matching : r ≡ Pattern.Matching → Ok (Step.Pattern true) ≡ take_mx h x v
     unfolding take_mx
     mx_matching e = let k = cases.1 e in rw (k.0, f, k.1)
 
-    pub mx_other : r ≡ Pattern.Other → Step.Pattern false ≡ take_mx h x v
+    pub mx_other : r ≡ Pattern.Other → Ok (Step.Pattern false) ≡ take_mx h x v
     unfolding take_mx
     mx_other e = let k = cases.2 e in rw (k.0, f, k.1)
 
-pub ruleset version_laws = (version_had, version_bad, version_good, not-true, not-false, rules)
-
-pub ruleset mode_laws = (mode_had, mode_bad, mode_good, not-true, not-false, rules)
-
-pub ruleset age_laws = (age_had, age_bad, age_good, rules)
-
-pub ruleset mx_laws = (mx_listed_bad, mx_listed, mx_malformed, mx_matching, mx_other, not-true, not-false, rules)
-
--- `take_field`: s is what the call for the kind k gave
-module _ (h : List ℕ) (x : Bool) (r : Seen) (v : List ℕ) (k : Kind) (s : Step) where
-  pub field_version : k ≡ Kind.Version → s ≡ take_version r v → s ≡ take_field h x r k v
-  unfolding take_field
-  field_version e g = rw e g
-
-  pub field_mode : k ≡ Kind.Mode → s ≡ take_mode r v → s ≡ take_field h x r k v
-  unfolding take_field
-  field_mode e g = rw e g
-
-  pub field_age : k ≡ Kind.MaxAge → s ≡ take_age r v → s ≡ take_field h x r k v
-  unfolding take_field
-  field_age e g = rw e g
-
-  pub field_mx : k ≡ Kind.Mx → s ≡ take_mx h x v → s ≡ take_field h x r k v
-  unfolding take_field
-  field_mx e g = rw e g
-
-pub field_other : (h : List ℕ) (x : Bool) (r : Seen) (v : List ℕ) (k : Kind) → k ≡ Kind.Other → Step.Next r ≡ take_field h x r k v
-unfolding take_field
-field_other h x r v k e = rw e
-
-pub ruleset field_laws = (field_version, field_mode, field_age, field_mx, field_other, rules)
+pub ruleset mx_laws = (mx_listed_bad, mx_listed, mx_malformed, mx_matching, mx_other)
 
 -- `value_of`: the colon stands at e; `from` and `to` are what its calls gave
 module _ (l : List ℕ) (e : ℕ) (at : e ≡ index_of 58 l) (w : e < length l) (from : ℕ) (f : from ≡ e + 1 + span_of blank (drop (e + 1) l)) where
@@ -219,17 +135,17 @@ stripped l = go (leb 1 (length (value_of l))) refl
 
 -- `take_value`: v is the line's value, b whether it is a value
 module _ (h : List ℕ) (x : Bool) (r : Seen) (l : List ℕ) (v : List ℕ) (y : v ≡ value_of l) (b : Bool) (g : b ≡ stripped_value v) where
-  pub line_bad : b ≡ false → Step.Broken Cause.Form ≡ take_line h x r l
+  pub line_bad : b ≡ false → Err Cause.Form ≡ take_line h x r l
   unfolding take_line is_line
   line_bad e =
       let k : is_value (value_of l) ≡ false = cc (stripped l) in
       rw (k, and-false)
 
-  pub line_good : (e : ℕ) → has_name 58 l ≡ true → e ≡ index_of 58 l → b ≡ true → (k : Kind) → k ≡ kind_of (take (e - 0) l) → (s : Step) → s ≡ take_field h x r k v → s ≡ take_line h x r l
+  pub line_good : (e : ℕ) → has_name 58 l ≡ true → e ≡ index_of 58 l → b ≡ true → (k : Kind) → k ≡ kind_of (take (e - 0) l) → (s : Result Step Cause) → s ≡ take_field h x r k v → s ≡ take_line h x r l
   unfolding take_line is_line name_of
   line_good e has at t k c s f =
       let i : is_value (value_of l) ≡ true = cc (stripped l) in
       let z : e - 0 ≡ e = omega arith in
       rw (i, has, sym at) (f ∙ rw (c, y, z))
 
-pub ruleset line_laws = (printable_value, line_bad, line_good, not-true, not-false, rules)
+pub ruleset line_laws = (printable_value, line_bad, line_good)

@@ -1,135 +1,88 @@
 // The bytes of a value: printable ASCII and well-formed UTF-8 (RFC 3629).
-ghost use Rattle.std.specs.Prelude.{◌≡◌, ◌+◌, ◌≤◌, length, get_or, drop};
+#![tactic(auto)]
+
+ghost use Rattle.std.specs.Prelude.{◌≡◌, ◌<◌, ◌≤◌, false, MatchOption, length};
 ghost use Rattle.policies.specs.Texts.{utf8_tail, utf8_two, utf8_three, utf8_four, printable, is_text};
-ghost use Rattle.policies.specs.Reader.{size_of, size_at};
 
 // Whether b continues a sequence.
+#[tactic(auto, using(lists::proofs::Laws::tests), unfolding(crate::specs::Texts::utf8_tail))]
 fn is_tail(b: u8) -> bool
     ensures { result ≡ utf8_tail b }
 {
-    lists::is_within(0x80, 0xbf, b)
+    matches!(b, 0x80..=0xbf)
 }
 
 // Whether b is a space or a byte 21 to 7E.
+#[tactic(auto, using(lists::proofs::Laws::tests), unfolding(crate::specs::Texts::printable))]
 pub fn is_printable(b: u8) -> bool
     ensures { result ≡ printable b }
 {
-    lists::is_within(0x20, 0x7e, b)
+    matches!(b, 0x20..=0x7e)
 }
 
 // Whether a and b are a sequence.
+#[tactic(auto, using(lists::proofs::Laws::tests), unfolding(crate::specs::Texts::utf8_two))]
 fn is_two(a: u8, b: u8) -> bool
     ensures { result ≡ utf8_two a b }
 {
-    let first = lists::is_within(0xc2, 0xdf, a);
-    if !first {
-        return false;
-    }
-    is_tail(b)
+    matches!(a, 0xc2..=0xdf) && is_tail(b)
 }
 
 // Whether a, b and c are a sequence.
+#[tactic(auto, using(crate::proofs::Texts::three_laws))]
 fn is_three(a: u8, b: u8, c: u8) -> bool
     ensures { result ≡ utf8_three a b c }
 {
-    let last = is_tail(c);
-    if !last {
-        return false;
-    }
-    if a == 0xe0 {
-        return lists::is_within(0xa0, 0xbf, b);
-    }
-    if a == 0xed {
-        return lists::is_within(0x80, 0x9f, b);
-    }
-    let first = lists::is_within(0xe1, 0xef, a);
-    if !first {
-        return false;
-    }
-    is_tail(b)
+    is_tail(c)
+        && match a {
+            0xe0 => matches!(b, 0xa0..=0xbf),
+            0xed => matches!(b, 0x80..=0x9f),
+            0xe1..=0xef => is_tail(b),
+            _ => false,
+        }
 }
 
 // Whether a, b, c and d are a sequence.
+#[tactic(auto, using(crate::proofs::Texts::four_laws))]
 fn is_four(a: u8, b: u8, c: u8, d: u8) -> bool
     ensures { result ≡ utf8_four a b c d }
 {
-    let third = is_tail(c);
-    if !third {
-        return false;
-    }
-    let last = is_tail(d);
-    if !last {
-        return false;
-    }
-    if a == 0xf0 {
-        return lists::is_within(0x90, 0xbf, b);
-    }
-    if a == 0xf4 {
-        return lists::is_within(0x80, 0x8f, b);
-    }
-    let first = lists::is_within(0xf1, 0xf3, a);
-    if !first {
-        return false;
-    }
-    is_tail(b)
+    is_tail(c)
+        && is_tail(d)
+        && match a {
+            0xf0 => matches!(b, 0x90..=0xbf),
+            0xf4 => matches!(b, 0x80..=0x8f),
+            0xf1..=0xf3 => is_tail(b),
+            _ => false,
+        }
 }
 
-// The byte at i, and 0 past the end.
-fn byte_at(s: &[u8], i: usize) -> u8
-    ensures { result ≡ get_or s.now i 0 }
+// What follows the character at the front of v, a space, a byte 21 to 7E or a sequence; nothing where none stands there.
+#[tactic(auto, using(crate::proofs::Texts::character_laws))]
+fn after_character(v: &[u8]) -> Option<&[u8]>
+    ensures { MatchOption result (1 ≤ length v.now → is_text v.now ≡ false) (λ rest. (is_text v.now ≡ is_text rest.now) × (length rest.now < length v.now)) }
 {
-    if i < s.len() {
-        return s[i];
+    match v {
+        [a, rest @ ..] if is_printable(*a) => Some(rest),
+        [a, b, rest @ ..] if is_two(*a, *b) => Some(rest),
+        [a, b, c, rest @ ..] if is_three(*a, *b, *c) => Some(rest),
+        [a, b, c, d, rest @ ..] if is_four(*a, *b, *c, *d) => Some(rest),
+        _ => None,
     }
-    0
-}
-
-// How many bytes the sequence has that begins with these bytes; 0 where none does.
-fn size_of(a: u8, b: u8, c: u8, d: u8) -> usize
-    ensures { result ≡ size_of a b c d }
-{
-    let two = is_two(a, b);
-    if two {
-        return 2;
-    }
-    let three = is_three(a, b, c);
-    if three {
-        return 3;
-    }
-    let four = is_four(a, b, c, d);
-    if four {
-        return 4;
-    }
-    0
-}
-
-// The same of the sequence at the front of s.
-fn size_at(s: &[u8]) -> usize
-    ensures { (result ≡ size_at s.now) × (result ≤ length s.now) }
-{
-    let a = byte_at(s, 0);
-    let b = byte_at(s, 1);
-    let c = byte_at(s, 2);
-    let d = byte_at(s, 3);
-    size_of(a, b, c, d)
 }
 
 // Whether v is made of spaces, bytes 21 to 7E and sequences.
+#[tactic(auto, using(crate::proofs::Texts::text_end))]
 pub fn is_text(v: &[u8]) -> bool
     ensures { result ≡ is_text v.now }
 {
-    let mut i = 0;
-    while i < v.len() {
-        let plain = is_printable(v[i]);
-        if plain {
-            i += 1;
-        } else {
-            let n = size_at(&v[i..]);
-            if n == 0 {
-                return false;
-            }
-            i += n;
-        }
+    let mut rest = v;
+    // The step is what was read, one to four bytes. An iterator had to end in two ways, at the end of v and where no character stands.
+    while 0 < rest.len() {
+        let Some(after) = after_character(rest) else {
+            return false;
+        };
+        rest = after;
     }
     true
 }

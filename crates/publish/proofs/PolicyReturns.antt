@@ -1,38 +1,40 @@
 -- What `write_policy` and the functions below it return and leave: the checks of its arguments, the body piece by piece, and the call. Assumes nothing.
-use Prim.Native.Nat.{ℕ, ◌+◌, ◌*◌, ◌-◌, ◌<◌, ◌≤◌}
+use Prim.Native.Nat.{ℕ, ◌+◌, ◌<◌, ◌≤◌}
 use mathlib.Core.Path.{◌≡◌, refl, sym, ap, ◌∙◌}
-use mathlib.Core.Bool.{Bool, true, false, ◌&&◌, and-true, and-false}
-use mathlib.Core.List.{List, [], ◌∷◌, ◌++◌, append_assoc, flatten}
+use mathlib.Core.Bool.{Bool, true, false, cond, ◌&&◌, and-false}
+use mathlib.Core.List.{List, [], ◌∷◌, ◌++◌, append_assoc}
 use mathlib.Core.Option.{none, some}
 use native.Mathlib.Omega.{arith}
-use lib.Dec.{leb, ltb}
-use lib.ListN.{length, get_or, take, drop, length-append}
+use Rattle.std.specs.Prelude.{Result, Ok, Err, IsErr, IsErrAnd}
+use lib.Dec.{eqb, leb}
+use lib.ListN.{length, length-append}
 use borrow.Author.Rules.{rules}
-use borrow.Author.Tests.{not-true, not-false, leb-true, leb-false, le-leb, lt-leb, eq-eqb, ne_eqb}
+use borrow.Author.Tests.{not-true, not-false, leb-true, leb-false, le-leb, lt-leb, eqb-true, eqb-false}
 use Rattle.lists.specs.Bytes.{within, all}
-use Rattle.lists.specs.Check.{refusal_of}
+use Rattle.lists.specs.Check.{Check, refusal_of}
 use Rattle.lists.specs.Text.{text}
 use Rattle.lists.proofs.Bools.{and_both, and_left, never}
 use Rattle.numbers.specs.Numbers.{numbers, at_most}
 use Rattle.names.specs.Name.{is_pattern}
-use Rattle.numbers.specs.Pieces.{cut, sums_to, end_of, up_to}
-use Rattle.numbers.proofs.Pieces.{cut_next, cut_end, cut_count, cut_joined, sums_true, end_after, end_within, sizes}
+use Rattle.numbers.specs.Pieces.{cut, sums_to, up_to}
+use Rattle.numbers.proofs.Cut.{cut_count, sizes}
 use Rattle.clock.specs.Clock.{longest}
 use Rattle.policies.specs.declared.Mode.{Mode}
 use Rattle.policies.specs.declared.Mode.TheVariants as M
 use Rattle.policies.specs.Lines.{LF}
 use Rattle.policies.specs.Paper.{mode_text}
-use Rattle.writing.specs.declared.WriteAnswer.{WriteAnswer}
 use Rattle.writing.specs.Over.{over}
-use Rattle.writing.specs.Answer.{refusal, success}
+use Rattle.writing.specs.Answer.{refusal, success, write_answer, write_output}
 use Rattle.writing.proofs.WriteReturns.{refused_answer, refused_kept, short_answer, short_kept, done_answer, done_written}
 use Rattle.writing.specs.Decimal.{decimal}
 use Rattle.writing.proofs.Over.{over_nothing, step_is, step_fits, step_length}
 use Rattle.publish.specs.Texts.{field_line, mx_lines, policy_text}
-use Rattle.publish.specs.Calls.{mode_from, count_fits, patterns_fit, policy_checks, policy_of, write_policy_answer, write_policy_output}
-use Rattle.publish.specs.Steps.{head_text, age_line, body_length}
-use Rattle.publish.proofs.Digits.{age_most}
-use Rattle.publish.proofs.PolicyBack.{line_length, mx_most, count_few, policy_most}
+use Rattle.publish.specs.Calls.{mode_from, count_fits, patterns_fit, policy_checks, policy_of}
+use Rattle.publish.specs.declared.body.Policy.{Policy}
+use Rattle.publish.specs.declared.Refusal.{Refusal}
+use Rattle.publish.specs.declared.Refusal.TheVariants as R
+use Rattle.publish.specs.Steps.{head_text, age_line, number_of, moded, bytes_of, agrees}
+use Rattle.publish.proofs.PolicyBack.{line_length, policy_most}
 use Rattle.lists.proofs.All.{all_more}
 use Rattle.publish.proofs.Values.{pattern_short}
 
@@ -50,42 +52,6 @@ module _ (v out : List ℕ) (at : ℕ) where
       ∙ (step_is (at + 4) (at + 4 + length v) v (LF ∷ []) x y q refl a ∙ sym r))
 
 pub ruleset mx_line_laws = (mx_line_end, mx_line_written, rules)
-
--- `is_mode`
-module _ (mode : ℕ) where
-  pub mode_low : mode < 1 → false ≡ within 1 3 mode
-  mode_low h = rw (lt-leb 1 mode h)
-
-  pub mode_high : 1 ≤ mode → leb mode 3 ≡ within 1 3 mode
-  mode_high h = rw (le-leb 1 mode h)
-
-pub ruleset mode_laws = (mode_low, mode_high, rules)
-
--- `count_fits`
-count_over_any : (m : Mode) (n : ℕ) → 16 < n → false ≡ count_fits m n
-unfolding count_fits
-count_over_any M.Enforce n h = rw (lt-leb n 16 h) (sym (and-false (leb 1 n)))
-count_over_any M.Testing n h = rw (lt-leb n 16 h) (sym (and-false (leb 1 n)))
-count_over_any M.None n h = rw (lt-leb n 16 h)
-
-module _ (mode n : ℕ) where
-  pub count_over : 16 < n → false ≡ count_fits (mode_from mode) n
-  count_over h = count_over_any (mode_from mode) n h
-
-  module _ (h : n ≤ 16) where
-    pub count_enforce : mode ≡ 1 → ltb 0 n ≡ count_fits (mode_from mode) n
-    unfolding count_fits
-    count_enforce e = rw (eq-eqb mode 1 e, le-leb n 16 h) (sym (and-true (leb 1 n)))
-
-    pub count_testing : (mode ≡ 1 → ⊥) → mode ≡ 2 → ltb 0 n ≡ count_fits (mode_from mode) n
-    unfolding count_fits
-    count_testing d e = rw (ne_eqb mode 1 d, eq-eqb mode 2 e, le-leb n 16 h) (sym (and-true (leb 1 n)))
-
-    pub count_none : (mode ≡ 1 → ⊥) → (mode ≡ 2 → ⊥) → true ≡ count_fits (mode_from mode) n
-    unfolding count_fits
-    count_none d e = rw (ne_eqb mode 1 d, ne_eqb mode 2 e, le-leb n 16 h)
-
-pub ruleset count_laws = (count_over, count_enforce, count_testing, count_none, rules)
 
 -- `patterns_fit`: w, n, c and v are what its calls gave
 pattern_upto : (p : List ℕ) → is_pattern p ≡ true → up_to 255 p ≡ true
@@ -126,36 +92,8 @@ head_size M.Enforce = refl
 head_size M.Testing = refl
 head_size M.None = refl
 
-module _ (mode : ℕ) where
-  module _ (e : mode ≡ 1) where
-    pub enforce_length : 29 ≡ length (head_text (mode_from mode))
-    unfolding mode_text
-    enforce_length = rw (head_size (mode_from mode), eq-eqb mode 1 e)
-
-    pub enforce_word : text "enforce\n" ≡ mode_text (mode_from mode) ++ (LF ∷ [])
-    unfolding mode_text
-    enforce_word = rw (eq-eqb mode 1 e)
-
-  module _ (d : mode ≡ 1 → ⊥) where
-    module _ (e : mode ≡ 2) where
-      pub testing_length : 29 ≡ length (head_text (mode_from mode))
-      unfolding mode_text
-      testing_length = rw (head_size (mode_from mode), ne_eqb mode 1 d, eq-eqb mode 2 e)
-
-      pub testing_word : text "testing\n" ≡ mode_text (mode_from mode) ++ (LF ∷ [])
-      unfolding mode_text
-      testing_word = rw (ne_eqb mode 1 d, eq-eqb mode 2 e)
-
-    module _ (e : mode ≡ 2 → ⊥) where
-      pub none_length : 26 ≡ length (head_text (mode_from mode))
-      unfolding mode_text
-      none_length = rw (head_size (mode_from mode), ne_eqb mode 1 d, ne_eqb mode 2 e)
-
-      pub none_word : text "none\n" ≡ mode_text (mode_from mode) ++ (LF ∷ [])
-      unfolding mode_text
-      none_word = rw (ne_eqb mode 1 d, ne_eqb mode 2 e)
-
-pub ruleset head_laws = (enforce_length, testing_length, none_length, rules)
+pub head_end : (m : Mode) (w : List ℕ) → w ≡ mode_text m ++ (LF ∷ []) → 21 + length w ≡ length (head_text m)
+head_end m w e = omega (arith, ap length e, length-append (mode_text m) (LF ∷ []), head_size m)
 
 -- `write_head`: what all modes share, and then the mode's word and LF
 pub head_written : (m : Mode) (w out x y : List ℕ) → w ≡ mode_text m ++ (LF ∷ []) → length (head_text m) ≤ length out → x ≡ over 0 (text "version: STSv1\nmode: ") out → y ≡ over 21 w x → y ≡ over 0 (head_text m) out
@@ -164,24 +102,10 @@ head_written m w out x y e h p q =
     let fits : 0 + length (head_text m) ≤ length out = omega arith in
     q ∙ (rw e (sym (step_is 0 21 (text "version: STSv1\nmode: ") (mode_text m ++ (LF ∷ [])) out x p refl fits)))
 
-pub ruleset write_head_laws = (enforce_word, testing_word, none_word, head_written, rules)
-
--- `age_length`
-pub age_upto : (n r : ℕ) → r ≡ length (decimal n) → n ≤ longest → r ≤ 8
-age_upto n r e h = omega (arith, age_most n h)
-
-pub ruleset age_laws = (age_upto, rules)
-
--- `body_length`
+-- ---- the line of the lifetime
 age_size : (n : ℕ) → length (age_line n) ≡ 10 + length (decimal n)
 unfolding age_line
 age_size n = omega (arith, line_length (text "max_age") (decimal n))
-
-pub body_size : (mode : Mode) (n m head size : ℕ) → head ≡ length (head_text mode) → size ≡ length (decimal n) → head + m + (10 + size) ≡ body_length mode n m
-unfolding body_length
-body_size mode n m head size p q = omega (arith, age_size n)
-
-pub ruleset size_laws = (body_size, rules)
 
 -- `write_age`: size is how many digits `put_decimal` wrote
 module _ (n at size : ℕ) (is : size ≡ length (decimal n)) where
@@ -197,43 +121,52 @@ module _ (n at size : ℕ) (is : size ≡ length (decimal n)) where
 
 pub ruleset write_age_laws = (age_end, age_written, rules)
 
--- `write_patterns`: the loop stands at the byte `from` of s and the place k of ns, and writes at `to`
-module _ (s ns out x : List ℕ) (at from k to : ℕ) (places : to + length (mx_lines (cut (drop from s) (drop k ns))) ≡ at + length (mx_lines (cut s ns))) (inv : over at (mx_lines (cut s ns)) out ≡ over to (mx_lines (cut (drop from s) (drop k ns))) x) where
-  module _ (n : ℕ) (counted : n ≡ length ns) (h : n ≤ k) where
-    nothing_left : mx_lines (cut (drop from s) (drop k ns)) ≡ []
-    unfolding mx_lines
-    nothing_left = let g : length ns ≤ k = omega arith in rw (cut_end s ns from k g)
+-- ---- a loop over patterns: a turn at p, which leaves ps of qs, and the end
+lines_next : (p : List ℕ) (ps qs : List (List ℕ)) → qs ≡ p ∷ ps → mx_lines qs ≡ field_line (text "mx") p ++ mx_lines ps
+unfolding mx_lines
+lines_next p ps qs e = rw e
 
-    pub mx_end : to ≡ at + length (mx_lines (cut s ns))
-    mx_end = omega (arith, ap length nothing_left)
+lines_none : (qs : List (List ℕ)) → qs ≡ [] → mx_lines qs ≡ []
+unfolding mx_lines
+lines_none qs e = rw e
 
-    pub mx_written : x ≡ over at (mx_lines (cut s ns)) out
-    mx_written = sym (inv ∙ rw nothing_left (over_nothing to x))
+sizes_next : (p : List ℕ) (ps qs : List (List ℕ)) → qs ≡ p ∷ ps → length (mx_lines qs) ≡ 5 + length p + length (mx_lines ps)
+sizes_next p ps qs e = omega (arith, ap length (lines_next p ps qs e), length-append (field_line (text "mx") p) (mx_lines ps), line_length (text "mx") p)
 
-  module _ (n : ℕ) (counted : n ≡ length ns) (h : k < n) (w : from ≤ length s) (e : ℕ) (ends : e ≡ end_of (length s) from (get_or ns k 0)) where
-    next : mx_lines (cut (drop from s) (drop k ns)) ≡ field_line (text "mx") (take (e - from) (drop from s)) ++ mx_lines (cut (drop e s) (drop (k + 1) ns))
-    unfolding mx_lines
-    next = let g : k < length ns = omega arith in rw (cut_next s ns from k e ends w g)
+-- `mx_length`: the lines have `all` bytes, n of them are counted
+module _ (p : List ℕ) (ps qs : List (List ℕ)) (e : qs ≡ p ∷ ps) (n whole : ℕ) (inv : n + length (mx_lines qs) ≡ whole) where
+  pub length_next : n + (5 + length p) + length (mx_lines ps) ≡ whole
+  length_next = omega (arith, inv, sizes_next p ps qs e)
 
-    module _ (room : at + length (mx_lines (cut s ns)) ≤ length out) (same : length x ≡ length out) where
-      fits : to + length (field_line (text "mx") (take (e - from) (drop from s)) ++ mx_lines (cut (drop e s) (drop (k + 1) ns))) ≤ length x
-      fits = omega (arith, ap length next)
+pub length_end : (qs : List (List ℕ)) (n whole : ℕ) → qs ≡ [] → n + length (mx_lines qs) ≡ whole → n ≡ whole
+length_end qs n whole e inv = omega (arith, inv, ap length (lines_none qs e))
 
-      pub mx_room : to + (length (take (e - from) (drop from s)) + 5) ≤ length x
-      mx_room = omega (arith, fits, length-append (field_line (text "mx") (take (e - from) (drop from s))) (mx_lines (cut (drop e s) (drop (k + 1) ns))), line_length (text "mx") (take (e - from) (drop from s)))
+-- `write_patterns`: the lines of `all` are written from `at` on over `out`; x is what the output is, and those of qs are to be written from `to` on
+module _ (whole qs : List (List ℕ)) (out x : List ℕ) (at to : ℕ) (places : to + length (mx_lines qs) ≡ at + length (mx_lines whole)) (inv : over at (mx_lines whole) out ≡ over to (mx_lines qs) x) where
+  module _ (e : qs ≡ []) where
+    pub mx_end : to ≡ at + length (mx_lines whole)
+    mx_end = omega (arith, places, ap length (lines_none qs e))
 
-      module _ (b : ℕ) (line : b ≡ to + length (field_line (text "mx") (take (e - from) (drop from s)))) where
-        pub mx_places : b + length (mx_lines (cut (drop e s) (drop (k + 1) ns))) ≡ at + length (mx_lines (cut s ns))
-        mx_places = omega (arith, ap length next, length-append (field_line (text "mx") (take (e - from) (drop from s))) (mx_lines (cut (drop e s) (drop (k + 1) ns))))
+    pub mx_written : x ≡ over at (mx_lines whole) out
+    mx_written = sym (inv ∙ rw (lines_none qs e) (over_nothing to x))
 
-        module _ (y : List ℕ) (wrote : y ≡ over to (field_line (text "mx") (take (e - from) (drop from s))) x) where
-          pub mx_next : over at (mx_lines (cut s ns)) out ≡ over b (mx_lines (cut (drop e s) (drop (k + 1) ns))) y
-          mx_next = inv ∙ (ap (λ (t : List ℕ). over to t x) next ∙ step_is to b (field_line (text "mx") (take (e - from) (drop from s))) (mx_lines (cut (drop e s) (drop (k + 1) ns))) x y wrote line fits)
+  module _ (p : List ℕ) (ps : List (List ℕ)) (e : qs ≡ p ∷ ps) (room : at + length (mx_lines whole) ≤ length out) (same : length x ≡ length out) where
+    fits : to + length (field_line (text "mx") p ++ mx_lines ps) ≤ length x
+    fits = omega (arith, places, room, same, ap length (lines_next p ps qs e))
 
-          pub mx_same : length y ≡ length out
-          mx_same = step_length to b (field_line (text "mx") (take (e - from) (drop from s))) (mx_lines (cut (drop e s) (drop (k + 1) ns))) x y wrote line fits ∙ same
+    pub mx_room : to + (length p + 5) ≤ length x
+    mx_room = omega (arith, fits, length-append (field_line (text "mx") p) (mx_lines ps), line_length (text "mx") p)
 
-pub ruleset mx_laws = (mx_end, mx_written, mx_room, mx_places, mx_next, mx_same, end_after, end_within, rules)
+    module _ (b : ℕ) (line : b ≡ to + length (field_line (text "mx") p)) where
+      pub mx_places : b + length (mx_lines ps) ≡ at + length (mx_lines whole)
+      mx_places = omega (arith, places, ap length (lines_next p ps qs e), length-append (field_line (text "mx") p) (mx_lines ps))
+
+      module _ (y : List ℕ) (wrote : y ≡ over to (field_line (text "mx") p) x) where
+        pub mx_next : over at (mx_lines whole) out ≡ over b (mx_lines ps) y
+        mx_next = inv ∙ (ap (λ (t : List ℕ). over to t x) (lines_next p ps qs e) ∙ step_is to b (field_line (text "mx") p) (mx_lines ps) x y wrote line fits)
+
+        pub mx_same : length y ≡ length out
+        mx_same = step_length to b (field_line (text "mx") p) (mx_lines ps) x y wrote line fits ∙ same
 
 -- `write_body` and `write_policy`
 -- the body in its parts
@@ -241,9 +174,15 @@ parts : (m : Mode) (n : ℕ) (ps : List (List ℕ)) → policy_text m n ps ≡ h
 unfolding policy_text head_text age_line
 parts m n ps = sym (append_assoc (field_line (text "version") (text "STSv1")) (field_line (text "mode") (mode_text m)) (mx_lines ps ++ field_line (text "max_age") (decimal n)))
 
-pub body_length_is : (m : Mode) (n : ℕ) (ps : List (List ℕ)) → length (policy_text m n ps) ≡ body_length m n (length (mx_lines ps))
-unfolding body_length
-body_length_is m n ps = rw (parts m n ps) (omega (arith, length-append (head_text m) (mx_lines ps ++ age_line n), length-append (mx_lines ps) (age_line n)))
+pub size_is : (m : Mode) (n : ℕ) (ps : List (List ℕ)) (w : List ℕ) → w ≡ mode_text m ++ (LF ∷ []) → (k size : ℕ) → k ≡ length (mx_lines ps) → size ≡ length (decimal n) → 21 + length w + k + (10 + size) ≡ length (policy_text m n ps)
+size_is m n ps w e k size f g = omega (arith, ap length (parts m n ps), length-append (head_text m) (mx_lines ps ++ age_line n), length-append (mx_lines ps) (age_line n), head_end m w e, f, g, age_size n)
+
+-- a policy of at most 4,207 bytes has lines of no more
+pub lines_few : (m : Mode) (n : ℕ) (ps : List (List ℕ)) → length (policy_text m n ps) ≤ 4207 → length (mx_lines ps) ≤ 4207
+lines_few m n ps h = omega (arith, h, ap length (parts m n ps), length-append (head_text m) (mx_lines ps ++ age_line n), length-append (mx_lines ps) (age_line n))
+
+pub size_few : (m : Mode) (n : ℕ) (ps : List (List ℕ)) → length (policy_text m n ps) ≤ 4207 → (w : List ℕ) → w ≡ mode_text m ++ (LF ∷ []) → (k size : ℕ) → k ≡ length (mx_lines ps) → size ≡ length (decimal n) → 21 + length w + k + (10 + size) ≤ 4207
+size_few m n ps h w e k size f g = omega (arith, h, size_is m n ps w e k size f g)
 
 module _ (m : Mode) (n : ℕ) (ps : List (List ℕ)) (out : List ℕ) (room : length (policy_text m n ps) ≤ length out) where
   whole_fits : 0 + length (head_text m ++ (mx_lines ps ++ age_line n)) ≤ length out
@@ -269,14 +208,6 @@ module _ (m : Mode) (n : ℕ) (ps : List (List ℕ)) (out : List ℕ) (room : le
       pub body_written : (z : List ℕ) → z ≡ over e (age_line n) y → z ≡ over 0 (policy_text m n ps) out
       body_written z w = sym (rw (parts m n ps) (step_is 0 a (head_text m) (mx_lines ps ++ age_line n) out x wrote (omega arith) whole_fits ∙ (step_is a e (mx_lines ps) (age_line n) x y listed after middle_fits ∙ sym w)))
 
-pub ruleset body_laws = (body_head, body_patterns, body_age, body_end, body_written, rules)
-
--- `mx_length`: the bytes of all lines are those of the patterns, and five for each
-mx_size : (ps : List (List ℕ)) → length (mx_lines ps) ≡ length (flatten ps) + length ps * 5
-unfolding mx_lines flatten
-mx_size [] = refl
-mx_size (p ∷ ps) = omega (arith, length-append (field_line (text "mx") p) (mx_lines ps), line_length (text "mx") p, length-append p (flatten ps), mx_size ps)
-
 module _ (m : Mode) (s l : List ℕ) (fits : patterns_fit m s l ≡ true) where
   pub fit_parts : (sums_to l (length s) ≡ true) × (count_fits m (length (numbers l)) ≡ true) × (all is_pattern (cut s (numbers l)) ≡ true)
   unfolding patterns_fit
@@ -285,114 +216,106 @@ module _ (m : Mode) (s l : List ℕ) (fits : patterns_fit m s l ≡ true) where
       let b = and_both (sums_to l (length s)) (count_fits m (length (numbers l))) a.0 in
       (b.0, b.1, a.1)
 
-  pub fit_few : length (numbers l) ≤ 16
-  fit_few = count_few m (length (numbers l)) fit_parts.1
-
-  mx_total : length (mx_lines (cut s (numbers l))) ≡ length s + length (numbers l) * 5
-  mx_total = mx_size (cut s (numbers l)) ∙ rw (cut_joined s (numbers l) (sums_true l (length s) fit_parts.0), cut_count s (numbers l))
-
-  pub mx_bound : length s + length (numbers l) * 5 ≤ 4160
-  mx_bound = omega (arith, mx_total, mx_most (cut s (numbers l)) fit_parts.2, cut_count s (numbers l), fit_few)
-
-  pub mx_length_is : (n : ℕ) → n ≡ length (numbers l) → length s + n * 5 ≡ length (mx_lines (cut s (numbers l)))
-  mx_length_is n e = omega (arith, mx_total)
-
-  pub mx_length_most : (n : ℕ) → n ≡ length (numbers l) → length s + n * 5 ≤ 4160
-  mx_length_most n e = omega (arith, mx_bound)
-
-pub ruleset mx_length_laws = (mx_length_is, mx_length_most, rules)
-
--- `body_fits` and `rewritten_fits`: m is the length of the mx lines, size what `body_length` gave
-pub fits_is : (mode : Mode) (n : ℕ) (ps : List (List ℕ)) (m size room : ℕ) → m ≡ length (mx_lines ps) → size ≡ body_length mode n m → leb size room ≡ leb (length (policy_text mode n ps)) room
-fits_is mode n ps m size room mx sized = ap (λ (k : ℕ). leb k room) (sized ∙ (ap (body_length mode n) mx ∙ sym (body_length_is mode n ps)))
-
-pub fits_always : (t : List ℕ) (room : ℕ) → length t ≤ 4207 → 4207 ≤ room → true ≡ leb (length t) room
-fits_always t room h k = sym (le-leb (length t) room (omega arith))
-
 pub given_most : (mode n : ℕ) (s l : List ℕ) → patterns_fit (mode_from mode) s l ≡ true → n ≤ longest → length (policy_of mode n s l) ≤ 4207
 given_most mode n s l fit short =
     let parts_are = fit_parts (mode_from mode) s l fit in
     policy_most (mode_from mode) n (cut s (numbers l)) short (rw (cut_count s (numbers l)) parts_are.1) parts_are.2
 
-pub ruleset fits_laws = (fits_is, fits_always, given_most, rules)
+-- ---- `given`: a mode's number
+outside : (n : ℕ) → (n ≡ 1 → ⊥) → (n ≡ 2 → ⊥) → (n ≡ 3 → ⊥) → within 1 3 n ≡ false
+outside n a b c = go (leb 1 n) refl (leb n 3) refl
+  where
+    go : (x : Bool) → leb 1 n ≡ x → (y : Bool) → leb n 3 ≡ y → (x && y) ≡ false
+    go true p true q = absurd (let l : 1 ≤ n = leb-true 1 n p in let m : n ≤ 3 = leb-true n 3 q in omega (arith, a, b, c, l, m))
+    go true p false q = refl
+    go false p y q = refl
 
--- the writers' call sites: b is what one of the two gave
-pub room_is : (size room : ℕ) (b : Bool) → b ≡ leb size room → b ≡ true → size ≤ room
-room_is size room b e k = leb-true size room (sym e ∙ k)
+moded_at : (n : ℕ) (a b c : Bool) → eqb n 1 ≡ a → eqb n 2 ≡ b → eqb n 3 ≡ c → moded n ≡ cond a (Ok M.Enforce) (cond b (Ok M.Testing) (cond c (Ok M.None) (Err R.BadMode)))
+unfolding moded
+moded_at n a b c p q r = rw (p, q, r)
 
--- `write_policy`: g and f are what its calls gave
-module _ (mode n : ℕ) (s l : List ℕ) (g : Bool) (named : g ≡ within 1 3 mode) where
-  module _ (t : g ≡ false) where
-    mode_refused : refusal_of (policy_checks mode n s l) ≡ some 67
-    unfolding policy_checks refusal_of
-    mode_refused = rw (sym named ∙ t)
+pub moded_is : (n : ℕ) (m : Mode) → Ok m ≡ moded n → (within 1 3 n ≡ true) × (m ≡ mode_from n)
+moded_is n m e = go (eqb n 1) refl (eqb n 2) refl (eqb n 3) refl
+  where
+    go : (a : Bool) → eqb n 1 ≡ a → (b : Bool) → eqb n 2 ≡ b → (c : Bool) → eqb n 3 ≡ c → (within 1 3 n ≡ true) × (m ≡ mode_from n)
+    go true p b q c r = let k : n ≡ 1 = eqb-true n 1 p in let f : Ok m ≡ Ok M.Enforce = e ∙ moded_at n true b c p q r in let g : m ≡ M.Enforce = cc in rw k (refl, g)
+    go false p true q c r = let k : n ≡ 2 = eqb-true n 2 q in let f : Ok m ≡ Ok M.Testing = e ∙ moded_at n false true c p q r in let g : m ≡ M.Testing = cc in rw k (refl, g)
+    go false p false q true r = let k : n ≡ 3 = eqb-true n 3 r in let f : Ok m ≡ Ok M.None = e ∙ moded_at n false false true p q r in let g : m ≡ M.None = cc in rw k (refl, g)
+    go false p false q false r = never (let f : Ok m ≡ Err R.BadMode = e ∙ moded_at n false false false p q r in cc)
 
-    module _ (out : List ℕ) where
-      pub mode_bad : (r : WriteAnswer) → r ≡ refusal 67 → r ≡ write_policy_answer mode n s l (length out)
-      unfolding write_policy_answer
-      mode_bad = refused_answer (policy_checks mode n s l) (policy_of mode n s l) out 67 mode_refused
+pub moded_none : (n : ℕ) (r : Refusal) → Err r ≡ moded n → (within 1 3 n ≡ false) × (r ≡ R.BadMode)
+moded_none n r e = go (eqb n 1) refl (eqb n 2) refl (eqb n 3) refl
+  where
+    go : (a : Bool) → eqb n 1 ≡ a → (b : Bool) → eqb n 2 ≡ b → (c : Bool) → eqb n 3 ≡ c → (within 1 3 n ≡ false) × (r ≡ R.BadMode)
+    go true p b q c t = never (let f : Err r ≡ Ok M.Enforce = e ∙ moded_at n true b c p q t in cc)
+    go false p true q c t = never (let f : Err r ≡ Ok M.Testing = e ∙ moded_at n false true c p q t in cc)
+    go false p false q true t = never (let f : Err r ≡ Ok M.None = e ∙ moded_at n false false true p q t in cc)
+    go false p false q false t =
+        let f : Err r ≡ Err R.BadMode = e ∙ moded_at n false false false p q t in
+        (outside n (eqb-false n 1 p) (eqb-false n 2 q) (eqb-false n 3 t), cc)
 
-      pub mode_kept : out ≡ write_policy_output mode n s l out
-      unfolding write_policy_output
-      mode_kept = refused_kept (policy_checks mode n s l) (policy_of mode n s l) out 67 mode_refused
+-- what `?` hands on is the refusal
+pub passed_on : (r : Result Policy Refusal) (e : Refusal) → IsErr r × IsErrAnd r (λ f. f ≡ e) → (checks : List Check) (t : List ℕ) → refusal_of checks ≡ some (number_of e) → agrees r checks t
+unfolding agrees
+passed_on (Ok a) e h checks t g = absurd h.1
+passed_on (Err f) e h checks t g = g ∙ ap (λ (x : Refusal). some (number_of x)) (sym h.1)
 
-  module _ (t : g ≡ true) (f : Bool) (fits : f ≡ patterns_fit (mode_from mode) s l) where
-    module _ (u : f ≡ false) where
-      patterns_refused : refusal_of (policy_checks mode n s l) ≡ some 81
-      unfolding policy_checks refusal_of
-      patterns_refused = rw (sym named ∙ t, sym fits ∙ u)
+module _ (mode n : ℕ) (s l : List ℕ) where
+  abbrev checks : List Check
+  checks = policy_checks mode n s l
 
-      module _ (out : List ℕ) where
-        pub patterns_bad : (r : WriteAnswer) → r ≡ refusal 81 → r ≡ write_policy_answer mode n s l (length out)
-        unfolding write_policy_answer
-        patterns_bad = refused_answer (policy_checks mode n s l) (policy_of mode n s l) out 81 patterns_refused
+  abbrev body : List ℕ
+  body = policy_of mode n s l
 
-        pub patterns_kept : out ≡ write_policy_output mode n s l out
-        unfolding write_policy_output
-        patterns_kept = refused_kept (policy_checks mode n s l) (policy_of mode n s l) out 81 patterns_refused
+  pub given_no_mode : (r : Result Policy Refusal) (e : Refusal) → IsErr r × IsErrAnd r (λ f. f ≡ e) → Err e ≡ moded mode → agrees r checks body
+  unfolding policy_checks refusal_of
+  given_no_mode r e h g = let k = moded_none mode e g in passed_on r e h checks body (rw (k.0, k.1))
 
-    module _ (u : f ≡ true) where
-      pub fits_true : patterns_fit (mode_from mode) s l ≡ true
-      fits_true = sym fits ∙ u
+  module _ (m : Mode) (named : Ok m ≡ moded mode) (f : Bool) (fits : f ≡ patterns_fit m s l) where
+    is : (within 1 3 mode ≡ true) × (m ≡ mode_from mode)
+    is = moded_is mode m named
 
-      module _ (h : longest < n) where
-        lifetime_refused : refusal_of (policy_checks mode n s l) ≡ some 82
+    fitted : (b : Bool) → f ≡ b → patterns_fit (mode_from mode) s l ≡ b
+    fitted b e = rw (sym is.1) (sym fits ∙ e)
+
+    pub given_no_patterns : f ≡ false → agrees (Err R.BadPatterns) checks body
+    unfolding agrees policy_checks refusal_of
+    given_no_patterns e = rw (is.0, fitted false e)
+
+    module _ (e : f ≡ true) where
+      pub given_too_long : longest < n → agrees (Err R.BadLifetime) checks body
+      unfolding agrees policy_checks refusal_of
+      given_too_long h = rw (is.0, fitted true e, lt-leb n longest h)
+
+      module _ (h : n ≤ longest) where
+        pub given_short : length (policy_text m n (cut s (numbers l))) ≤ 4207
+        given_short = rw is.1 (given_most mode n s l (fitted true e) h)
+
+        pub given_good : (refusal_of checks ≡ none) × (policy_text m n (cut s (numbers l)) ≡ body)
         unfolding policy_checks refusal_of
-        lifetime_refused = rw (sym named ∙ t, sym fits ∙ u, lt-leb n longest h)
+        given_good = (rw (is.0, fitted true e, le-leb n longest h), ap (λ (x : Mode). policy_text x n (cut s (numbers l))) is.1)
 
-        module _ (out : List ℕ) where
-          pub lifetime_bad : (r : WriteAnswer) → r ≡ refusal 82 → r ≡ write_policy_answer mode n s l (length out)
-          unfolding write_policy_answer
-          lifetime_bad = refused_answer (policy_checks mode n s l) (policy_of mode n s l) out 82 lifetime_refused
+-- what is said of a result is said of what it is
+pub as_it_is : (r q : Result Policy Refusal) → r ≡ q → (checks : List Check) (t : List ℕ) → agrees r checks t → agrees q checks t
+as_it_is r q e checks t h = rw e at h
 
-          pub lifetime_kept : out ≡ write_policy_output mode n s l out
-          unfolding write_policy_output
-          lifetime_kept = refused_kept (policy_checks mode n s l) (policy_of mode n s l) out 82 lifetime_refused
+-- ---- `written`: a policy that was refused, an output that is too short, and one with room
+module _ (checks : List Check) (t out : List ℕ) where
+  pub no_policy : (e : Refusal) → agrees (Err e) checks t → (refusal (number_of e) ≡ write_answer checks t (length out)) × (out ≡ write_output checks t out)
+  unfolding agrees
+  no_policy e h = (refused_answer checks t out (number_of e) h (refusal (number_of e)) refl, refused_kept checks t out (number_of e) h)
 
-      module _ (h : n ≤ longest) (b : Bool) (out : List ℕ) (room : b ≡ leb (length (policy_of mode n s l)) (length out)) where
-        passed : refusal_of (policy_checks mode n s l) ≡ none
-        unfolding policy_checks refusal_of
-        passed = rw (sym named ∙ t, sym fits ∙ u, le-leb n longest h)
+  module _ (p : Policy) (h : agrees (Ok p) checks t) where
+    good : (refusal_of checks ≡ none) × (bytes_of p ≡ t)
+    unfolding agrees
+    good = h
 
-        module _ (k : b ≡ false) where
-          pub policy_short : (r : WriteAnswer) → r ≡ refusal 83 → r ≡ write_policy_answer mode n s l (length out)
-          unfolding write_policy_answer
-          policy_short = short_answer (policy_checks mode n s l) (policy_of mode n s l) out passed (leb-false (length (policy_of mode n s l)) (length out) (sym room ∙ k))
+    pub no_room : (b : Bool) → b ≡ leb (length (bytes_of p)) (length out) → b ≡ false → (refusal 83 ≡ write_answer checks t (length out)) × (out ≡ write_output checks t out)
+    no_room b e f =
+        let l : length out < length t = leb-false (length t) (length out) (ap (λ (x : List ℕ). leb (length x) (length out)) (sym good.1) ∙ (sym e ∙ f)) in
+        (short_answer checks t out good.0 l (refusal 83) refl, short_kept checks t out good.0 l)
 
-          pub policy_kept : out ≡ write_policy_output mode n s l out
-          unfolding write_policy_output
-          policy_kept = short_kept (policy_checks mode n s l) (policy_of mode n s l) out passed (leb-false (length (policy_of mode n s l)) (length out) (sym room ∙ k))
-
-        module _ (k : b ≡ true) where
-          enough : length (policy_of mode n s l) ≤ length out
-          enough = room_is (length (policy_of mode n s l)) (length out) b room k
-
-          pub policy_done : (size : ℕ) → size ≡ length (policy_of mode n s l) → (r : WriteAnswer) → r ≡ success size → r ≡ write_policy_answer mode n s l (length out)
-          unfolding write_policy_answer
-          policy_done size is r e = done_answer (policy_checks mode n s l) (policy_of mode n s l) out passed enough r (rw (← is) e)
-
-          pub policy_written : (y : List ℕ) → y ≡ over 0 (policy_of mode n s l) out → y ≡ write_policy_output mode n s l out
-          unfolding write_policy_output
-          policy_written = done_written (policy_checks mode n s l) (policy_of mode n s l) out passed enough
-
-pub ruleset policy_laws = (mode_bad, mode_kept, patterns_bad, patterns_kept, lifetime_bad, lifetime_kept, policy_short, policy_kept, room_is, policy_done, policy_written, fits_true, not-true, not-false, rules)
+    pub with_room : (b : Bool) → b ≡ leb (length (bytes_of p)) (length out) → b ≡ true → (size : ℕ) → size ≡ length (bytes_of p) → (y : List ℕ) → y ≡ over 0 (bytes_of p) out → (success size ≡ write_answer checks t (length out)) × (y ≡ write_output checks t out)
+    with_room b e f size g y w =
+        let l : length t ≤ length out = leb-true (length t) (length out) (ap (λ (x : List ℕ). leb (length x) (length out)) (sym good.1) ∙ (sym e ∙ f)) in
+        (done_answer checks t out good.0 l (success size) (ap success (g ∙ ap length good.1)), done_written checks t out good.0 l y (w ∙ ap (λ (x : List ℕ). over 0 x out) good.1))

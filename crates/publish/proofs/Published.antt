@@ -14,7 +14,7 @@ use Rattle.lists.proofs.Bools.{and_both}
 use Rattle.lists.proofs.Laws.{within_true}
 use Rattle.numbers.specs.Numbers.{numbers}
 use Rattle.numbers.specs.Pieces.{cut}
-use Rattle.numbers.proofs.Pieces.{cut_count}
+use Rattle.numbers.proofs.Cut.{cut_count}
 use Rattle.numbers.proofs.Written.{lengths_of}
 use Rattle.names.specs.Name.{is_pattern}
 use Rattle.clock.specs.Clock.{longest}

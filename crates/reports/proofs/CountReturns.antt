@@ -6,10 +6,13 @@ use mathlib.Core.List.{List}
 use mathlib.Core.Option.{Option, none, some}
 use native.Mathlib.Nat.{zero-add}
 use native.Mathlib.Omega.{arith}
+use Prim.Native.Nat.{min}
+use Rattle.std.specs.Prelude.{Some, None}
+use Rattle.std.specs.Prelude as Std
 use lib.Dec.{leb}
 use lib.ListN.{length}
 use borrow.Author.Rules.{rules}
-use borrow.Author.Tests.{not-true, not-false, le-leb, lt-leb, lt-ltb, le-ltb, eq-eqb, ne_eqb, leb-false}
+use borrow.Author.Tests.{not-true, not-false, le-leb, lt-leb, lt-ltb, le-ltb, eq-eqb, ne_eqb, leb-true, leb-false}
 use Rattle.lists.specs.Check.{refusal_of}
 use Rattle.numbers.specs.Numbers.{eight}
 use Rattle.verdicts.specs.Verdicts.{is_verdict}
@@ -23,23 +26,16 @@ use Rattle.reports.proofs.Counts.{total_parts}
 use Rattle.reports.proofs.Places.{is_uncounted, is_counted}
 
 -- `plus`
-module _ (a b : ℕ) where
-  pub plus_over : most_sessions < b → 1000000001 ≡ capped (a + b)
-  unfolding capped
-  plus_over h = rw (lt-leb (a + b) most_sessions (omega arith))
-
-  pub plus_above : most_sessions < a + b → 1000000001 ≡ capped (a + b)
-  unfolding capped
-  plus_above h = rw (lt-leb (a + b) most_sessions h)
-
-  pub plus_exact : a + b ≤ most_sessions → a + b ≡ capped (a + b)
-  unfolding capped
-  plus_exact h = rw (le-leb (a + b) most_sessions h)
-
-pub ruleset plus_laws = (plus_over, plus_above, plus_exact, rules)
+pub plus_is : (a b : ℕ) → capped (a + b) ≡ min (min (a + b) 18446744073709551615) 1000000001
+unfolding capped
+plus_is a b = go (leb (a + b) most_sessions) refl
+  where
+    go : (t : Bool) → leb (a + b) most_sessions ≡ t → cond t (a + b) 1000000001 ≡ min (min (a + b) 18446744073709551615) 1000000001
+    go true q = omega (arith, leb-true (a + b) most_sessions q)
+    go false q = omega (arith, leb-false (a + b) most_sessions q)
 
 -- the most, once passed, stays so
-capped_plus : (n m : ℕ) → capped (capped n + m) ≡ capped (n + m)
+pub capped_plus : (n m : ℕ) → capped (capped n + m) ≡ capped (n + m)
 unfolding capped
 capped_plus n m = go (leb n most_sessions) refl
   where
@@ -57,20 +53,17 @@ capped_both n m =
     capped_plus n (capped m) ∙ (ap capped a ∙ (capped_plus m n ∙ ap capped b))
 
 -- `successes`, `failures` and `total`
-module _ (s : List ℕ) where
-  pub successes_are : (a r : ℕ) → a ≡ count_at s 0 → r ≡ capped (0 + a) → r ≡ capped (count_at s 0)
-  successes_are a r p q = q ∙ rw (zero-add a, p)
+pub successes_are : (a : ℕ) → capped (0 + a) ≡ capped a
+successes_are a = rw (zero-add a)
 
-  pub failures_are : (b c d x y r : ℕ) → b ≡ count_at s 1 → c ≡ count_at s 2 → d ≡ count_at s 3 → x ≡ capped (0 + b) → y ≡ capped (x + c) → r ≡ capped (y + d) → r ≡ capped (failures_of s)
-  unfolding failures_of
-  failures_are b c d x y r p q t e f g =
-      let e₂ : y ≡ capped (b + c) = f ∙ rw (e, zero-add b, capped_plus b c) in
-      g ∙ rw (e₂, capped_plus (b + c) d, p, q, t)
+pub failures_are : (s : List ℕ) → capped (capped (count_at s 1 + count_at s 2) + count_at s 3) ≡ capped (failures_of s)
+unfolding failures_of
+failures_are s = capped_plus (count_at s 1 + count_at s 2) (count_at s 3)
 
-  pub total_of_lem : (a f r : ℕ) → a ≡ capped (count_at s 0) → f ≡ capped (failures_of s) → r ≡ capped (a + f) → r ≡ capped (total_of s)
-  total_of_lem a f r p q e = e ∙ rw (p, q, capped_both (count_at s 0) (failures_of s), total_parts s)
+pub total_are : (s : List ℕ) → capped (capped (count_at s 0) + capped (failures_of s)) ≡ capped (total_of s)
+total_are s = capped_both (count_at s 0) (failures_of s) ∙ ap capped (sym (total_parts s))
 
-pub ruleset total_laws = (successes_are, failures_are, total_of_lem, rules)
+pub ruleset total_laws = (successes_are, failures_are, capped_plus, total_are)
 
 -- a number up to the most is itself
 pub capped_small : (n : ℕ) → n ≤ most_sessions → capped n ≡ n
@@ -95,17 +88,10 @@ module _ (t n : ℕ) (is : n ≡ capped t) where
       go true e c = sym c
       go false e c = absurd (omega arith)
 
--- `next_count` and `add_one`
-pub next_is : (n m : ℕ) → n ≡ m → n + 1 ≡ m + 1
-next_is n m e = omega arith
-
+-- `add_one`
 pub one_more_lem : (s : List ℕ) (k n : ℕ) (b y : List ℕ) → n ≡ count_at s k + 1 → b ≡ eight n → y ≡ over (8 * k) b s → y ≡ one_more k s
 unfolding one_more
 one_more_lem s k n b y e p q = q ∙ rw (p, e)
-
-pub ruleset next_laws = (next_is, rules)
-
-pub ruleset add_laws = (one_more_lem, rules)
 
 -- `report_count`: g, n and k are what its calls gave
 module _ (v : ℕ) (s : List ℕ) where
@@ -161,7 +147,7 @@ module _ (v : ℕ) (s : List ℕ) where
           pub over_kept : s ≡ counts_after v s
           over_kept = kept 73 over_most
 
-        module _ (h : n ≤ most_sessions) (k : ℕ) (placed : k ≡ place_in (result_of v)) where
+        module _ (h : n ≤ most_sessions) (p : Std.Option ℕ) (placed : p ≡ place_in (result_of v)) where
           exact : total_of s ≡ n
           exact = capped_exact (total_of s) n is h
 
@@ -169,9 +155,9 @@ module _ (v : ℕ) (s : List ℕ) where
           unfolding refusal_of count_checks
           last_check = rw (sym gave ∙ t, eq-eqb (length s) 32 size, le-leb (total_of s) most_sessions (omega (arith, exact, h)))
 
-          module _ (l : 3 < k) where
+          module _ (l : p ≡ None) where
             none_is : result_of v ≡ none
-            none_is = is_uncounted (result_of v) k placed l
+            none_is = is_uncounted (result_of v) (sym l ∙ placed)
 
             uncounted : refusal_of (count_checks v s) ≡ none
             unfolding has_room
@@ -184,11 +170,11 @@ module _ (v : ℕ) (s : List ℕ) where
             unfolding with_session
             uncounted_kept = sym (left uncounted ∙ rw none_is)
 
-          module _ (l : k ≤ 3) where
+          module _ (k : ℕ) (l : p ≡ Some k) where
             module _ (m : most_sessions ≤ n) where
               full : refusal_of (count_checks v s) ≡ some 73
               unfolding has_room
-              full = last_check ∙ is_counted (result_of v) k placed l (λ (o : Option Result). cond {A = Option ℕ} (has_room o s) none (some 73) ≡ some 73) (λ r e. rw (le-ltb (total_of s) most_sessions (omega (arith, exact, m))))
+              full = last_check ∙ is_counted (result_of v) k (sym l ∙ placed) (λ (o : Option Result). cond {A = Option ℕ} (has_room o s) none (some 73) ≡ some 73) (λ r e. rw (le-ltb (total_of s) most_sessions (omega (arith, exact, m))))
 
               pub full_told : (r : WriteAnswer) → r ≡ refusal 73 → r ≡ report_count_answer v s
               full_told = told 73 full
@@ -199,14 +185,14 @@ module _ (v : ℕ) (s : List ℕ) where
             module _ (m : n < most_sessions) where
               counted : refusal_of (count_checks v s) ≡ none
               unfolding has_room
-              counted = last_check ∙ is_counted (result_of v) k placed l (λ (o : Option Result). cond {A = Option ℕ} (has_room o s) none (some 73) ≡ none) (λ r e. rw (lt-ltb (total_of s) most_sessions (omega (arith, exact, m))))
+              counted = last_check ∙ is_counted (result_of v) k (sym l ∙ placed) (λ (o : Option Result). cond {A = Option ℕ} (has_room o s) none (some 73) ≡ none) (λ r e. rw (lt-ltb (total_of s) most_sessions (omega (arith, exact, m))))
 
               pub counted_told : (r : WriteAnswer) → r ≡ success 0 → r ≡ report_count_answer v s
               counted_told = done counted
 
               pub counted_left : (y : List ℕ) → y ≡ one_more k s → y ≡ counts_after v s
               unfolding with_session
-              counted_left y w = w ∙ sym (left counted ∙ is_counted (result_of v) k placed l (λ (o : Option Result). with_session o s ≡ one_more k s) (λ r e. ap (λ (j : ℕ). one_more j s) e))
+              counted_left y w = w ∙ sym (left counted ∙ is_counted (result_of v) k (sym l ∙ placed) (λ (o : Option Result). with_session o s ≡ one_more k s) (λ r e. ap (λ (j : ℕ). one_more j s) e))
 
 pub count_room : (s : List ℕ) (n : ℕ) → n ≡ capped (total_of s) → n < most_sessions → total_of s < most_sessions
 count_room s n is h = omega (arith, h, capped_exact (total_of s) n is (omega (arith, h)))

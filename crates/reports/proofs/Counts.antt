@@ -1,12 +1,14 @@
 -- Laws of the four counts: what is written at a place is read there, and the others stay. Assumes nothing.
-use Prim.Native.Nat.{ℕ, zero, suc, ◌+◌, ◌*◌, ◌^◌, ◌<◌, ◌≤◌}
+use Prim.Native.Nat.{ℕ, zero, suc, ◌+◌, ◌*◌, ◌/◌, ◌^◌, ◌<◌, ◌≤◌}
 use mathlib.Core.Path.{◌≡◌, refl, sym, ap, ◌∙◌}
-use mathlib.Core.List.{List}
+use mathlib.Core.List.{List, [], ◌∷◌}
 use native.Mathlib.Omega.{arith}
 use lib.ListN.{length, get_or, take, drop}
-use borrow.Author.Rules.{rules}
 use Rattle.lists.specs.Numerals.{value_of}
-use Rattle.lists.proofs.Words.{eight_is}
+use Rattle.std.specs.Int.{w64, from_be_bytes}
+use Rattle.std.specs.Simd.{first_chunks}
+use Rattle.lists.proofs.Chunks.{chunk_is}
+use Rattle.lists.proofs.Laws.{part_length}
 use Rattle.numbers.specs.Numbers.{sum, eight}
 use Rattle.numbers.proofs.Written.{eight_value}
 use Rattle.writing.specs.Over.{over}
@@ -14,13 +16,18 @@ use Rattle.writing.proofs.Over.{over_length, over_there, over_before, over_after
 use Rattle.reports.specs.Counts.{count_at, counts_of, total_of}
 use Rattle.reports.specs.Calls.{failures_of}
 
--- `count_at`: a to h are the bytes from i on
-pub count_is : (s : List ℕ) (k i a b c d e f g h : ℕ) → k ≤ 3 → length s ≡ 32 → i ≡ 8 * k → a ≡ get_or s i 0 → b ≡ get_or s (i + 1) 0 → c ≡ get_or s (i + 2) 0 → d ≡ get_or s (i + 3) 0 → e ≡ get_or s (i + 4) 0 → f ≡ get_or s (i + 5) 0 → g ≡ get_or s (i + 6) 0 → h ≡ get_or s (i + 7) 0 → h + 256 * (g + 256 * (f + 256 * (e + 256 * (d + 256 * (c + 256 * (b + 256 * a)))))) ≡ count_at s k
-unfolding count_at value_of
-count_is s k i a b c d e f g h few size at pa pb pc pd pe pf pg ph =
-    rw (← at, eight_is s i (omega arith), ← pa, ← pb, ← pc, ← pd, ← pe, ← pf, ← pg, ← ph) (omega arith)
+-- `count_at`: a count is the number of chunk k
+value_is : (s : List ℕ) → length s ≡ 8 → from_be_bytes w64 s ≡ value_of 0 s
+unfolding value_of
+value_is (a ∷ b ∷ c ∷ d ∷ e ∷ f ∷ g ∷ h ∷ []) l = omega arith
+value_is s l = absurd (omega arith)
 
-pub ruleset count_laws = (count_is, rules)
+pub count_is : (s : List ℕ) (k : ℕ) (words : List (List ℕ)) (r : ℕ) → k ≤ 3 → length s ≡ 32 → words ≡ first_chunks 8 (length s / 8) s → r ≡ from_be_bytes w64 (get_or words k []) → r ≡ count_at s k
+unfolding count_at
+count_is s k words r few size front e =
+    let i : k < length s / 8 = omega arith in
+    let l : length (take 8 (drop (8 * k) s)) ≡ 8 = part_length s (8 * k) 8 (omega arith) in
+    e ∙ rw (front, chunk_is 8 (length s / 8) k s i) (value_is (take 8 (drop (8 * k) s)) l)
 
 -- the bytes of a number
 eight_size : (n : ℕ) → length (eight n) ≡ 8

@@ -22,7 +22,7 @@ use Rattle.reports.specs.Counts.{count_at, total_of}
 use Rattle.reports.specs.Calls.{most_sessions, summary_text, failures_of, summary_of, summary_checks, report_summary_answer, report_summary_output}
 use Rattle.reports.specs.Steps.{capped}
 use Rattle.reports.proofs.Counts.{total_parts}
-use Rattle.reports.proofs.CountReturns.{total_of_lem, capped_over, capped_exact, capped_small}
+use Rattle.reports.proofs.CountReturns.{total_are, capped_over, capped_exact, capped_small}
 
 -- `digits` and `put_sessions`
 pub digits_most : (n r : ℕ) → r ≡ length (decimal n) → n ≤ most_sessions → r ≤ 10
@@ -111,7 +111,7 @@ module _ (s : List ℕ) where
 
   module _ (size : length s ≡ 32) (a f n : ℕ) (is_a : a ≡ capped (count_at s 0)) (is_f : f ≡ capped (failures_of s)) (is_n : n ≡ capped (a + f)) where
     is_total : n ≡ capped (total_of s)
-    is_total = total_of_lem s a f n is_a is_f is_n
+    is_total = rw (is_n, is_a, is_f) (total_are s)
 
     module _ (h : most_sessions < n) where
       over_most : refusal_of (summary_checks s) ≡ some 73

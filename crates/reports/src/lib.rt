@@ -26,29 +26,18 @@ const MOST_SESSIONS: u64 = 1000000000;
 // The most bytes that a summary has: two numbers of 9 digits.
 const MOST_BYTES: usize = 94;
 
-// The place of the count that a verdict adds to; 4 where it isn't counted.
-fn place_of(verdict: u64) -> usize
-    ensures { (result ≡ place_in (result_of verdict)) × (result ≤ 4) }
+// The place of the count that a verdict adds to, where it is counted.
+#[tactic(auto, using(crate::proofs::Places::place_laws))]
+fn place_of(verdict: u64) -> Option<usize>
+    ensures { result ≡ place_in (result_of verdict) }
 {
-    if verdict < 3 {
-        return 4;
+    match verdict {
+        3..=5 => Some(0),
+        22 => Some(1),
+        24 => Some(2),
+        23 | 25..=28 => Some(3),
+        _ => None,
     }
-    if verdict <= 5 {
-        return 0;
-    }
-    if verdict < 22 {
-        return 4;
-    }
-    if 28 < verdict {
-        return 4;
-    }
-    if verdict == 22 {
-        return 1;
-    }
-    if verdict == 24 {
-        return 2;
-    }
-    3
 }
 
 // The count at a place.
@@ -56,71 +45,46 @@ fn count_at(counts: &[u8], k: usize) -> u64
     requires { (k ≤ 3) × (length counts.now ≡ 32) }
     ensures { result ≡ count_at counts.now k }
 {
-    let i = 8 * k;
-    let a = lists::wide(counts[i]);
-    let b = lists::wide(counts[i + 1]);
-    let c = lists::wide(counts[i + 2]);
-    let d = lists::wide(counts[i + 3]);
-    let e = lists::wide(counts[i + 4]);
-    let f = lists::wide(counts[i + 5]);
-    let g = lists::wide(counts[i + 6]);
-    let h = lists::wide(counts[i + 7]);
-    h + 256 * (g + 256 * (f + 256 * (e + 256 * (d + 256 * (c + 256 * (b + 256 * a))))))
+    let (words, _) = counts.as_chunks::<8>();
+    u64::from_be_bytes(words[k])
 }
 
 // The sum of two numbers of sessions; one more than the most where it is above that, so that no sum is too large.
+#[tactic(auto, using(crate::proofs::CountReturns::plus_is))]
 fn plus(a: u64, b: u64) -> u64
-    requires { a ≤ 1000000001 }
     ensures { (result ≡ capped (a + b)) × (result ≤ 1000000001) }
 {
-    if MOST_SESSIONS < b {
-        return 1000000001;
-    }
-    if MOST_SESSIONS < a + b {
-        return 1000000001;
-    }
-    a + b
+    a.saturating_add(b).min(MOST_SESSIONS + 1)
 }
 
 // The successes, up to one more than the most.
+#[tactic(auto, using(crate::proofs::CountReturns::total_laws))]
 fn successes(counts: &[u8]) -> u64
     requires { length counts.now ≡ 32 }
     ensures { (result ≡ capped (count_at counts.now 0)) × (result ≤ 1000000001) }
 {
-    let a = count_at(counts, 0);
-    plus(0, a)
+    plus(0, count_at(counts, 0))
 }
 
 // The failures, up to one more than the most.
+#[tactic(auto, using(crate::proofs::CountReturns::total_laws))]
 fn failures(counts: &[u8]) -> u64
     requires { length counts.now ≡ 32 }
     ensures { (result ≡ capped (failures_of counts.now)) × (result ≤ 1000000001) }
 {
-    let b = count_at(counts, 1);
-    let c = count_at(counts, 2);
-    let d = count_at(counts, 3);
-    let one = plus(0, b);
-    let two = plus(one, c);
-    plus(two, d)
+    plus(
+        plus(count_at(counts, 1), count_at(counts, 2)),
+        count_at(counts, 3),
+    )
 }
 
 // The total, up to one more than the most.
+#[tactic(auto, using(crate::proofs::CountReturns::total_laws))]
 fn total(counts: &[u8]) -> u64
     requires { length counts.now ≡ 32 }
     ensures { (result ≡ capped (total_of counts.now)) × (result ≤ 1000000001) }
 {
-    let s = successes(counts);
-    let f = failures(counts);
-    plus(s, f)
-}
-
-// One more than the count at a place, where there is room.
-fn next_count(counts: &[u8], k: usize) -> u64
-    requires { (k ≤ 3) × (length counts.now ≡ 32) × (total_of counts.now < most_sessions) }
-    ensures { result ≡ count_at counts.now k + 1 }
-{
-    let n = count_at(counts, k);
-    n + 1
+    plus(successes(counts), failures(counts))
 }
 
 // Adds one to the count at a place, where there is room.
@@ -128,9 +92,8 @@ fn add_one(counts: &mut [u8], k: usize)
     requires { (k ≤ 3) × (length counts.old ≡ 32) × (total_of counts.old < most_sessions) }
     ensures { counts.new ≡ one_more k counts.old }
 {
-    let n = next_count(counts, k);
-    let bytes = numbers::eight_bytes(n);
-    writing::put(&bytes, counts, 8 * k);
+    let n = count_at(counts, k) + 1;
+    writing::put(&numbers::eight_bytes(n), counts, 8 * k);
 }
 
 // Counts a session with this verdict: 15, or 63, 74, 73 and the counts as they were.
@@ -138,8 +101,7 @@ pub fn report_count(verdict: u64, counts: &mut [u8]) -> WriteAnswer
     ensures value { result ≡ report_count_answer verdict counts.old }
     ensures counts_after { counts.new ≡ counts_after verdict counts.old }
 {
-    let good = verdicts::is_verdict(verdict);
-    if !good {
+    if !verdicts::is_verdict(verdict) {
         return writing::refused(NO_VERDICT);
     }
     if counts.len() != COUNTS_SIZE {
@@ -149,10 +111,9 @@ pub fn report_count(verdict: u64, counts: &mut [u8]) -> WriteAnswer
     if MOST_SESSIONS < n {
         return writing::refused(TOO_MANY);
     }
-    let k = place_of(verdict);
-    if 3 < k {
+    let Some(k) = place_of(verdict) else {
         return writing::done(0);
-    }
+    };
     if MOST_SESSIONS <= n {
         return writing::refused(TOO_MANY);
     }
@@ -161,6 +122,7 @@ pub fn report_count(verdict: u64, counts: &mut [u8]) -> WriteAnswer
 }
 
 // How many digits a number of sessions has.
+#[tactic(auto, using(crate::proofs::SummaryReturns::digits_laws))]
 fn digits(n: u64) -> usize
     requires { n ≤ most_sessions }
     ensures { (result ≡ length (decimal n)) × (result ≤ 10) }
@@ -169,19 +131,16 @@ fn digits(n: u64) -> usize
 }
 
 // Whether an output of `room` bytes is enough for the summary. It is measured only where it might not be.
+#[tactic(auto, using(crate::proofs::SummaryReturns::fits_laws))]
 fn summary_fits(s: u64, f: u64, room: usize) -> bool
     requires { s + f ≤ most_sessions }
     ensures { result ≡ leb (length (summary_text s f)) room }
 {
-    if MOST_BYTES <= room {
-        return true;
-    }
-    let m = digits(s);
-    let n = digits(f);
-    76 + m + n <= room
+    MOST_BYTES <= room || 76 + digits(s) + digits(f) <= room
 }
 
 // Writes a number of sessions in decimal over the output from `at` on, and says how many digits it has.
+#[tactic(auto, using(crate::proofs::SummaryReturns::digits_laws))]
 fn put_sessions(n: u64, output: &mut [u8], at: usize) -> usize
     requires { n ≤ most_sessions }
     ensures value { (result ≡ length (decimal n)) × (result ≤ 10) }
@@ -220,12 +179,10 @@ pub fn report_summary(counts: &[u8], output: &mut [u8]) -> WriteAnswer
     }
     let s = successes(counts);
     let f = failures(counts);
-    let n = plus(s, f);
-    if MOST_SESSIONS < n {
+    if MOST_SESSIONS < plus(s, f) {
         return writing::refused(TOO_MANY);
     }
-    let room = summary_fits(s, f, output.len());
-    if !room {
+    if !summary_fits(s, f, output.len()) {
         return writing::refused(writing::OUTPUT_SHORT);
     }
     let size = write_summary(s, f, output);

@@ -1,6 +1,6 @@
 -- The returns of the functions on an answer. L and R are the list of lengths and the records. Assumes nothing.
 use Prim.Native.Nat.{ℕ, ◌<◌, ◌≤◌}
-use mathlib.Core.Path.{◌≡◌, refl, sym, ◌∙◌}
+use mathlib.Core.Path.{◌≡◌, refl, sym, ap, ◌∙◌}
 use mathlib.Core.Bool.{Bool, true, false, cond, ◌&&◌, and-false}
 use mathlib.Core.List.{List, [], ◌∷◌}
 use mathlib.Core.Option.{none, some}
@@ -11,10 +11,12 @@ use borrow.Author.Tests.{not-true, not-false, lt-leb, le-leb}
 use Rattle.lists.specs.Bytes.{all, any}
 use Rattle.numbers.specs.Numbers.{numbers, at_most}
 use Rattle.numbers.specs.Pieces.{cut, sums_to}
-use Rattle.numbers.proofs.Pieces.{cut_count, sizes}
+use Rattle.numbers.proofs.Cut.{cut_count, sizes}
 use Rattle.tlsa.specs.Record.{short, usable}
-use Rattle.tlsa.specs.Answer.{Answer, secure, insecure, absent, failed, records_of, answer_of, set_fits, answer_fits, needs_of, taken_of, read_of, lookup_verdict, read_verdict}
-use Rattle.tlsa.specs.declared.Lookup.{Lookup}
+use Rattle.numbers.specs.declared.Pieces.{Pieces}
+use Rattle.tlsa.specs.Answer.{Answer, secure, insecure, absent, failed, records_of, records_in, answer_in, set_fits, answer_fits, set_keeps, answer_keeps, needs_of, taken_of, taken_if_whole, read_of, lookup_verdict, read_verdict}
+use Rattle.tlsa.specs.declared.TlsaAnswer.{TlsaAnswer}
+use Rattle.tlsa.specs.declared.TlsaAnswer.TheVariants as T
 use Rattle.tlsa.specs.declared.Needs.{Needs}
 use Rattle.tlsa.specs.declared.Read.{Read}
 
@@ -55,17 +57,17 @@ module _ (L R : List ℕ) (n : ℕ) (counted : n ≡ length (numbers L)) where
 
 -- `read_secure`: s and d are what `has_short` and `needs_of` gave
 module _ (L R : List ℕ) (s : Bool) (se : s ≡ any short (records_of L R)) where
-  pub read_malformed : s ≡ true → Read.LookupFailed ≡ read_of (answer_of Lookup.Secure L R)
-  unfolding read_of answer_of
+  pub read_malformed : s ≡ true → Read.LookupFailed ≡ taken_if_whole (records_of L R)
+  unfolding taken_if_whole
   read_malformed t = cc
 
   module _ (sf : s ≡ false) (n : ℕ) (counted : n ≡ length (numbers L)) where
-    pub read_next : n ≡ 0 → Read.NextName ≡ read_of (answer_of Lookup.Secure L R)
-    unfolding read_of answer_of taken_of
+    pub read_next : n ≡ 0 → Read.NextName ≡ taken_if_whole (records_of L R)
+    unfolding taken_if_whole taken_of
     read_next h = cc (no_record L R (sym counted ∙ h))
 
-    pub read_taken : (n ≡ 0 → ⊥) → (d : Needs) → d ≡ needs_of (records_of L R) → Read.Taken d ≡ read_of (answer_of Lookup.Secure L R)
-    unfolding read_of answer_of
+    pub read_taken : (n ≡ 0 → ⊥) → (d : Needs) → d ≡ needs_of (records_of L R) → Read.Taken d ≡ taken_if_whole (records_of L R)
+    unfolding taken_if_whole
     read_taken h d e = cc (some_taken (records_of L R) (some_record L R n counted h))
 
 pub ruleset needs_laws = (needs_nothing, needs_tls, needs_authentication, not-true, not-false, rules)
@@ -85,73 +87,75 @@ read_verdict_lem insecure = refl
 read_verdict_lem absent = refl
 read_verdict_lem failed = refl
 
--- `read_answer`: r is what `read_secure` gave
-module _ (lookup : Lookup) (L R : List ℕ) where
-  module _ (h : lookup ≡ Lookup.Secure) (r : Read) (e : r ≡ read_of (answer_of Lookup.Secure L R)) where
-    pub answer_secure : r ≡ read_of (answer_of lookup L R)
-    answer_secure = cc
+-- `TlsaAnswer::read`: r is what `read_secure` gave
+module _ (a : TlsaAnswer) where
+  module _ (set : Pieces) (h : a ≡ T.Secure set) (r : Read) (e : r ≡ taken_if_whole (records_in set)) where
+    pub answer_secure : r ≡ read_of (answer_in a)
+    unfolding read_of answer_in taken_if_whole
+    answer_secure = rw h e
 
-    pub verdict_secure : read_verdict r ≡ lookup_verdict (answer_of lookup L R)
-    verdict_secure = rw (h, e) (read_verdict_lem (answer_of Lookup.Secure L R))
+    pub verdict_secure : read_verdict r ≡ lookup_verdict (answer_in a)
+    verdict_secure = ap read_verdict answer_secure ∙ read_verdict_lem (answer_in a)
 
-  pub answer_insecure : lookup ≡ Lookup.Insecure → Read.NextName ≡ read_of (answer_of lookup L R)
-  unfolding read_of answer_of
+  pub answer_insecure : a ≡ T.Insecure → Read.NextName ≡ read_of (answer_in a)
+  unfolding read_of answer_in
   answer_insecure h = rw h
 
-  pub verdict_insecure : lookup ≡ Lookup.Insecure → none ≡ lookup_verdict (answer_of lookup L R)
-  unfolding lookup_verdict answer_of any
+  pub verdict_insecure : a ≡ T.Insecure → none ≡ lookup_verdict (answer_in a)
+  unfolding answer_in lookup_verdict any
   verdict_insecure h = rw h
 
-  pub answer_absent : lookup ≡ Lookup.Absent → Read.NextName ≡ read_of (answer_of lookup L R)
-  unfolding read_of answer_of
+  pub answer_absent : a ≡ T.Absent → Read.NextName ≡ read_of (answer_in a)
+  unfolding read_of answer_in
   answer_absent h = rw h
 
-  pub verdict_absent : lookup ≡ Lookup.Absent → none ≡ lookup_verdict (answer_of lookup L R)
-  unfolding lookup_verdict answer_of any
+  pub verdict_absent : a ≡ T.Absent → none ≡ lookup_verdict (answer_in a)
+  unfolding answer_in lookup_verdict any
   verdict_absent h = rw h
 
-  pub answer_failed : lookup ≡ Lookup.Failed → Read.LookupFailed ≡ read_of (answer_of lookup L R)
-  unfolding read_of answer_of
+  pub answer_failed : a ≡ T.Failed → Read.LookupFailed ≡ read_of (answer_in a)
+  unfolding read_of answer_in
   answer_failed h = rw h
 
-  pub verdict_failed : lookup ≡ Lookup.Failed → some 22 ≡ lookup_verdict (answer_of lookup L R)
-  unfolding lookup_verdict answer_of
+  pub verdict_failed : a ≡ T.Failed → some 22 ≡ lookup_verdict (answer_in a)
+  unfolding answer_in lookup_verdict
   verdict_failed h = rw h
 
 pub ruleset answer_laws = (answer_secure, verdict_secure, answer_insecure, verdict_insecure, answer_absent, verdict_absent, answer_failed, verdict_failed, rules)
 
--- `records_fit`: n and r are what its calls gave
-module _ (L R : List ℕ) (n : ℕ) (ne : n ≡ length (numbers L)) where
-  pub fit_count : 32 < n → false ≡ answer_fits Lookup.Secure L R
-  unfolding answer_fits set_fits
-  fit_count h = rw (cut_count R (numbers L), ← ne, lt-leb n 32 h) (sym (and-false (sums_to L (length R))))
-
-  by_sizes : n ≤ 32 → (w : Bool) → w ≡ sums_to L (length R) → (w && all (at_most 4096) (numbers L)) ≡ (w && set_fits (records_of L R))
+-- `set_fits`: n is what `count` gave
+module _ (set : Pieces) (n : ℕ) (ne : n ≡ length (numbers set.lengths.now)) where
+  by_sizes : n ≤ 32 → (w : Bool) → w ≡ sums_to set.lengths.now (length set.bytes.now) → (w && all (at_most 4096) (numbers set.lengths.now)) ≡ (w && set_fits (records_in set))
   unfolding set_fits
-  by_sizes h true e = rw (sizes 4096 R L true e refl, cut_count R (numbers L), ← ne, le-leb n 32 h)
+  by_sizes h true e = rw (sizes 4096 set.bytes.now set.lengths.now true e refl, cut_count set.bytes.now (numbers set.lengths.now), ← ne, le-leb n 32 h)
   by_sizes h false e = refl
 
-  pub fit_sizes : n ≤ 32 → (r : Bool) → r ≡ (sums_to L (length R) && all (at_most 4096) (numbers L)) → r ≡ answer_fits Lookup.Secure L R
-  unfolding answer_fits
-  fit_sizes h r re = re ∙ by_sizes h (sums_to L (length R)) refl
+  pub fit_count : 32 < n → false ≡ set_keeps set
+  unfolding set_keeps answer_fits set_fits
+  fit_count h = rw (cut_count set.bytes.now (numbers set.lengths.now), ← ne, lt-leb n 32 h) (sym (and-false (sums_to set.lengths.now (length set.bytes.now))))
+
+  pub fit_sizes : n ≤ 32 → (r : Bool) → r ≡ (sums_to set.lengths.now (length set.bytes.now) && all (at_most 4096) (numbers set.lengths.now)) → r ≡ set_keeps set
+  unfolding set_keeps answer_fits
+  fit_sizes h r re = re ∙ by_sizes h (sums_to set.lengths.now (length set.bytes.now)) refl
 
 pub ruleset fit_laws = (fit_count, fit_sizes, rules)
 
--- `answer_fits`: r is what `records_fit` gave
-module _ (lookup : Lookup) (L R : List ℕ) where
-  pub fits_secure : lookup ≡ Lookup.Secure → (r : Bool) → r ≡ answer_fits Lookup.Secure L R → r ≡ answer_fits lookup L R
-  fits_secure h r e = cc
+-- `TlsaAnswer::fits`: r is what `set_fits` gave
+module _ (a : TlsaAnswer) where
+  pub fits_secure : (set : Pieces) → a ≡ T.Secure set → (r : Bool) → r ≡ set_keeps set → r ≡ answer_keeps a
+  unfolding answer_keeps
+  fits_secure set h r e = rw h e
 
-  pub fits_insecure : lookup ≡ Lookup.Insecure → true ≡ answer_fits lookup L R
-  unfolding answer_fits
+  pub fits_insecure : a ≡ T.Insecure → true ≡ answer_keeps a
+  unfolding answer_keeps
   fits_insecure h = rw h
 
-  pub fits_absent : lookup ≡ Lookup.Absent → true ≡ answer_fits lookup L R
-  unfolding answer_fits
+  pub fits_absent : a ≡ T.Absent → true ≡ answer_keeps a
+  unfolding answer_keeps
   fits_absent h = rw h
 
-  pub fits_failed : lookup ≡ Lookup.Failed → true ≡ answer_fits lookup L R
-  unfolding answer_fits
+  pub fits_failed : a ≡ T.Failed → true ≡ answer_keeps a
+  unfolding answer_keeps
   fits_failed h = rw h
 
 pub ruleset fits_laws = (fits_secure, fits_insecure, fits_absent, fits_failed, rules)

@@ -1,7 +1,6 @@
 pub mod Record
 pub mod Ignored
 pub mod Answer
-pub mod Short
 pub mod Meaning
 pub mod Written
 mod Worked

@@ -10,7 +10,7 @@ use Rattle.numbers.specs.Numbers.{numbers, is_whole, sum, written}
 use Rattle.numbers.specs.Pieces.{cut, sums_to, up_to}
 use Rattle.tlsa.specs.Record.{short, is_usage, is_selector, data_fits, usable, is_sha512, ignored, counts}
 use Rattle.tlsa.specs.Answer.{answer_of, set_fits, answer_fits, needs_of, taken_of, read_of, lookup_verdict}
-use Rattle.tlsa.specs.declared.Lookup.TheVariants.{Secure, Insecure, Absent, Failed}
+use Rattle.tlsa.specs.Answer.{Secure, Insecure, Absent, Failed}
 use Rattle.tlsa.specs.declared.Needs.TheVariants.{Tls, Authentication}
 use Rattle.tlsa.specs.declared.Read.TheVariants.{LookupFailed, Taken, NextName}
 

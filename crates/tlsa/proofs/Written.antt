@@ -11,7 +11,7 @@ use Rattle.lists.proofs.Bools.{and_right}
 use Rattle.numbers.specs.Pieces.{up_to}
 use Rattle.numbers.proofs.Written.{lengths_of, lengths_bytes, pieces_back, pieces_sum}
 use Rattle.tlsa.specs.Answer.{records_of, set_fits, answer_fits}
-use Rattle.tlsa.specs.declared.Lookup.{Lookup}
+use Rattle.tlsa.specs.Answer.{Lookup}
 
 -- A set within the limits is read back, and its lists keep the limits of an answer.
 module _ (set : List (List ℕ)) (h : set_fits set ≡ true) where

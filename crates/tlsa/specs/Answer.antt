@@ -5,8 +5,9 @@ use Rattle.lists.specs.Bytes.{all, any}
 use Rattle.numbers.specs.Numbers.{numbers}
 use Rattle.numbers.specs.Pieces.{cut, sums_to, up_to}
 use Rattle.tlsa.specs.Record.{short, usable}
-use Rattle.tlsa.specs.declared.Lookup.{Lookup}
-use Rattle.tlsa.specs.declared.Lookup.TheVariants.{Secure, Insecure, Absent, Failed}
+use Rattle.numbers.specs.declared.Pieces.{Pieces}
+use Rattle.tlsa.specs.declared.TlsaAnswer.{TlsaAnswer}
+use Rattle.tlsa.specs.declared.TlsaAnswer.TheVariants as T
 use Rattle.tlsa.specs.declared.Needs.{Needs}
 use Rattle.tlsa.specs.declared.Needs.TheVariants.{Nothing, Tls, Authentication}
 use Rattle.tlsa.specs.declared.Read.{Read}
@@ -21,12 +22,27 @@ pub data Answer : Type 0 where
 abbrev pub records_of : List ℕ → List ℕ → List (List ℕ)
 records_of lengths records = cut records (numbers lengths)
 
+-- The records of a list that code holds as one value.
+abbrev pub records_in : Pieces → List (List ℕ)
+records_in set = records_of set.lengths.now set.bytes.now
+
+-- How a TLSA lookup ended.
+pub data Lookup : Type 0 where
+  Secure Insecure Absent Failed : Lookup
+
 -- The answer that is given by how the lookup ended and, where that is secure, by the records. Otherwise these are not looked at.
 unfoldable pub answer_of : Lookup → List ℕ → List ℕ → Answer
 answer_of Secure lengths records = secure (records_of lengths records)
 answer_of Insecure lengths records = insecure
 answer_of Absent lengths records = absent
 answer_of Failed lengths records = failed
+
+-- The answer that code holds as one value.
+unfoldable pub answer_in : TlsaAnswer → Answer
+answer_in (T.Secure set) = secure (records_in set)
+answer_in T.Insecure = insecure
+answer_in T.Absent = absent
+answer_in T.Failed = failed
 
 -- The limits of a set: 32 records, 4,096 bytes each.
 unfoldable pub set_fits : List (List ℕ) → Bool
@@ -39,6 +55,16 @@ answer_fits Insecure lengths records = true
 answer_fits Absent lengths records = true
 answer_fits Failed lengths records = true
 
+-- The same of what code holds as one value.
+unfoldable pub set_keeps : Pieces → Bool
+set_keeps set = answer_fits Secure set.lengths.now set.bytes.now
+
+unfoldable pub answer_keeps : TlsaAnswer → Bool
+answer_keeps (T.Secure set) = set_keeps set
+answer_keeps T.Insecure = true
+answer_keeps T.Absent = true
+answer_keeps T.Failed = true
+
 -- What a set needs: nothing without a record, TLS with no usable one, DANE authentication with a usable one.
 unfoldable pub needs_of : List (List ℕ) → Needs
 needs_of [] = Nothing
@@ -48,6 +74,10 @@ needs_of (r ∷ set) = cond (any usable (r ∷ set)) Authentication Tls
 unfoldable pub taken_of : List (List ℕ) → Read
 taken_of [] = NextName
 taken_of (r ∷ set) = Taken (needs_of (r ∷ set))
+
+-- A secure answer: a record under 3 bytes makes the lookup count as failed.
+unfoldable pub taken_if_whole : List (List ℕ) → Read
+taken_if_whole set = cond (any short set) LookupFailed (taken_of set)
 
 -- What reading an answer comes to. Failed, or a secure record under 3 bytes: the lookup counts as failed. Insecure or absent: next name.
 unfoldable pub read_of : Answer → Read

@@ -1,4 +1,3 @@
 pub mod Record
 pub mod Answer
 pub mod Address
-pub mod Steps

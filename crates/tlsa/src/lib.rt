@@ -4,13 +4,15 @@
 ghost use Rattle.std.specs.Prelude.{◌≡◌, ◌-◌};
 ghost use Rattle.lists.specs.Bytes.{any};
 ghost use Rattle.tlsa.specs.Record.{short, is_usage, is_selector, data_fits, usable};
-ghost use Rattle.tlsa.specs.Answer.{records_of, answer_of, answer_fits, needs_of, read_of, lookup_verdict, read_verdict};
+ghost use Rattle.tlsa.specs.Answer.{records_in, answer_in, set_keeps, answer_keeps, needs_of, taken_if_whole, read_of, lookup_verdict, read_verdict};
 ghost use Rattle.tlsa.specs.Address.{names_to_try, meaning_of};
 
-// How a TLSA lookup ended. A secure answer has a list of records, perhaps none.
+use numbers::Pieces;
+
+// A TLSA answer, by how the lookup ended. A secure one has a list of records, perhaps none.
 #[derive(Clone, Copy)]
-pub enum Lookup {
-    Secure,
+pub enum TlsaAnswer<'a> {
+    Secure(Pieces<'a>),
     Insecure,
     Absent,
     Failed,
@@ -55,166 +57,120 @@ pub enum Tries {
 }
 
 // Whether the usage is 2 or 3.
+#[tactic(auto, unfolding(crate::specs::Record::is_usage))]
 fn is_usage(usage: u8) -> bool
     ensures { result ≡ is_usage usage }
 {
-    usage == 2 || usage == 3
+    matches!(usage, 2 | 3)
 }
 
 // Whether the selector is 0 or 1.
+#[tactic(auto, unfolding(crate::specs::Record::is_selector))]
 fn is_selector(selector: u8) -> bool
     ensures { result ≡ is_selector selector }
 {
-    selector == 0 || selector == 1
+    matches!(selector, 0 | 1)
 }
 
 // Whether n bytes of data fit the matching type.
+#[tactic(auto, using(crate::proofs::Record::data_laws))]
 fn data_fits(matching_type: u8, n: usize) -> bool
     ensures { result ≡ data_fits matching_type n }
 {
-    if matching_type == 0 {
-        return 1 <= n;
+    match matching_type {
+        0 => 1 <= n,
+        1 => n == 32,
+        2 => n == 64,
+        _ => false,
     }
-    if matching_type == 1 {
-        return n == 32;
-    }
-    if matching_type == 2 {
-        return n == 64;
-    }
-    false
 }
 
 // Whether the record is usable.
+#[tactic(auto, using(crate::proofs::Record::usable_laws))]
 pub fn is_usable(entry: &[u8]) -> bool
     ensures { result ≡ usable entry.now }
 {
     if entry.len() < 3 {
         return false;
     }
-    let usage = is_usage(entry[0]);
-    if !usage {
+    if !is_usage(entry[0]) {
         return false;
     }
-    let selector = is_selector(entry[1]);
-    if !selector {
-        return false;
-    }
-    data_fits(entry[2], entry.len() - 3)
+    is_selector(entry[1]) && data_fits(entry[2], entry.len() - 3)
 }
 
-// What is left of some bytes after n of them: nothing where they are fewer.
-fn left_after(bytes: u64, n: u64) -> u64
-    ensures { result ≡ bytes - n }
+// Whether some record has under 3 bytes.
+fn has_short(mut set: Pieces<'_>) -> bool
+    ensures { result ≡ any short (records_in set.entry) }
 {
-    if bytes < n {
-        return 0;
-    }
-    bytes - n
-}
-
-// Whether some record has under 3 bytes: by its length, or by what is left of the records where the lengths run past them.
-fn has_short(lengths: &[u8], records: &[u8]) -> bool
-    ensures { result ≡ any short (records_of lengths.now records.now) }
-{
-    let n = numbers::count(lengths);
-    let mut rest = records.len() as u64;
-    let mut k = 0;
-    while k < n {
-        let size = numbers::number(lengths, k);
-        if size < 3 {
-            return true;
-        }
-        if rest < 3 {
-            return true;
-        }
-        rest = left_after(rest, size);
-        k += 1;
-    }
-    false
+    set.any(|entry| entry.len() < 3)
 }
 
 // Whether some record is usable.
-fn has_usable(lengths: &[u8], records: &[u8]) -> bool
-    ensures { result ≡ any usable (records_of lengths.now records.now) }
+fn has_usable(mut set: Pieces<'_>) -> bool
+    ensures { result ≡ any usable (records_in set.entry) }
 {
-    let n = numbers::count(lengths);
-    let mut at = 0;
-    let mut k = 0;
-    while k < n {
-        let e = numbers::end_at(lengths, k, at, records.len());
-        let hit = is_usable(&records[at..e]);
-        if hit {
-            return true;
-        }
-        at = e;
-        k += 1;
-    }
-    false
+    set.any(|entry| is_usable(entry))
 }
 
 // What the set needs.
-pub fn needs_of(lengths: &[u8], records: &[u8]) -> Needs
-    ensures { result ≡ needs_of (records_of lengths.now records.now) }
+#[tactic(auto, using(crate::proofs::Answer::needs_laws))]
+pub fn needs_of(set: Pieces<'_>) -> Needs
+    ensures { result ≡ needs_of (records_in set.entry) }
 {
-    let n = numbers::count(lengths);
-    if n == 0 {
+    if numbers::count(set.lengths) == 0 {
         return Needs::Nothing;
     }
-    let usable = has_usable(lengths, records);
-    if !usable {
+    if !has_usable(set) {
         return Needs::Tls;
     }
     Needs::Authentication
 }
 
-// What reading a secure answer comes to.
-fn read_secure(lengths: &[u8], records: &[u8]) -> Read
-    ensures { result ≡ read_of (answer_of Lookup.Secure lengths.now records.now) }
+// What reading a secure answer with these records comes to.
+#[tactic(auto, using(crate::proofs::Answer::secure_laws))]
+fn read_secure(set: Pieces<'_>) -> Read
+    ensures { result ≡ taken_if_whole (records_in set.entry) }
 {
-    let malformed = has_short(lengths, records);
-    if malformed {
+    if has_short(set) {
         return Read::LookupFailed;
     }
-    let n = numbers::count(lengths);
-    if n == 0 {
+    if numbers::count(set.lengths) == 0 {
         return Read::NextName;
     }
-    let needs = needs_of(lengths, records);
-    Read::Taken(needs)
+    Read::Taken(needs_of(set))
 }
 
-// What reading an answer comes to. The records of an answer that is not secure are not looked at.
-pub fn read_answer(lookup: Lookup, lengths: &[u8], records: &[u8]) -> Read
-    ensures { (result ≡ read_of (answer_of lookup lengths.now records.now)) × (read_verdict result ≡ lookup_verdict (answer_of lookup lengths.now records.now)) }
+// Whether the records of a secure answer keep the limits.
+#[tactic(auto, using(crate::proofs::Answer::fit_laws))]
+fn set_fits(set: Pieces<'_>) -> bool
+    ensures { result ≡ set_keeps set.entry }
 {
-    match lookup {
-        Lookup::Secure => read_secure(lengths, records),
-        Lookup::Insecure => Read::NextName,
-        Lookup::Absent => Read::NextName,
-        Lookup::Failed => Read::LookupFailed,
+    numbers::count(set.lengths) <= 32 && numbers::fits(set.lengths, set.bytes.len(), 4096)
+}
+
+impl TlsaAnswer<'_> {
+    // What reading the answer comes to.
+    #[tactic(auto, using(crate::proofs::Answer::answer_laws))]
+    pub fn read(&self) -> Read
+        ensures { (result ≡ read_of (answer_in self.now)) × (read_verdict result ≡ lookup_verdict (answer_in self.now)) }
+    {
+        match *self {
+            TlsaAnswer::Secure(set) => read_secure(set),
+            TlsaAnswer::Insecure | TlsaAnswer::Absent => Read::NextName,
+            TlsaAnswer::Failed => Read::LookupFailed,
+        }
     }
-}
 
-// Whether a secure answer keeps the limits.
-fn records_fit(lengths: &[u8], records: &[u8]) -> bool
-    ensures { result ≡ answer_fits Lookup.Secure lengths.now records.now }
-{
-    let n = numbers::count(lengths);
-    if 32 < n {
-        return false;
-    }
-    numbers::fits(lengths, records.len(), 4096)
-}
-
-// Whether an answer keeps the limits. Only a secure one has any.
-pub fn answer_fits(lookup: Lookup, lengths: &[u8], records: &[u8]) -> bool
-    ensures { result ≡ answer_fits lookup lengths.now records.now }
-{
-    match lookup {
-        Lookup::Secure => records_fit(lengths, records),
-        Lookup::Insecure => true,
-        Lookup::Absent => true,
-        Lookup::Failed => true,
+    // Whether the answer keeps the limits. Only a secure one has any.
+    #[tactic(auto, using(crate::proofs::Answer::fits_laws))]
+    pub fn fits(&self) -> bool
+        ensures { result ≡ answer_keeps self.now }
+    {
+        match *self {
+            TlsaAnswer::Secure(set) => set_fits(set),
+            TlsaAnswer::Insecure | TlsaAnswer::Absent | TlsaAnswer::Failed => true,
+        }
     }
 }
 

@@ -2,7 +2,6 @@
 #![tactic(auto)]
 
 ghost use Rattle.std.specs.Prelude.{true, ◌≡◌, [], length};
-ghost use Rattle.lists.specs.Bytes.{is_bytes};
 ghost use Rattle.cache.specs.Store.{store_answer, table_after, texts_after};
 ghost use Rattle.cache.specs.Lookup.{lookup_answer};
 ghost use Rattle.hosts.specs.Arguments.{arguments_of};
@@ -15,9 +14,11 @@ ghost use Rattle.txt.specs.Txt.{read_txt, wrote_txt};
 ghost use Rattle.tweedstork.specs.Calls.{next_host_answer, version};
 
 use cache::{CacheAnswer, CacheEntry};
-use hosts::{HostAnswer, Numbers};
+use certificates::Chain;
+use hosts::{HostAnswer, HostCall, Numbers};
 use leaf::CertificateAnswer;
 use messages::{MessageAnswer, MxLookup};
+use numbers::Pieces;
 use policies::PolicyAnswer;
 use txt::TxtAnswer;
 use writing::WriteAnswer;
@@ -42,16 +43,6 @@ pub fn tweedstork_read_policy(body: &[u8]) -> PolicyAnswer
     ensures { result ≡ policy_answer body.now }
 {
     policies::read_policy(body)
-}
-
-// Every byte of a slice is below 256. The type says so; this makes it a fact that a proof can cite, and nothing is left of it in the compiled code.
-fn is_bytes(s: &[u8]) -> bool
-    ensures { is_bytes s.now ≡ true }
-{
-    if s.len() == 0 {
-        return true;
-    }
-    s[0] <= 255
 }
 
 // May the relay deliver to this host, and how? Or what must it learn next?
@@ -91,57 +82,50 @@ pub fn tweedstork_judge_host<'a>(
 ) -> HostAnswer
     ensures { Judged (arguments_of (record { clock = clock; expanded_next_hop_given = expanded_next_hop_given; origin = origin; address = address; policy_given = policy_given; fetched = fetched; tlsa_answers = tlsa_answers; tlsa1_result = tlsa1_result; tlsa2_result = tlsa2_result; starttls = starttls; handshake = handshake; tls_version = tls_version; certificates_given = certificates_given; trusted_root = trusted_root; common_name_given = common_name_given }) next_hop.now expanded_next_hop.now host.now expanded.now policy.now tlsa1_lengths.now tlsa1_records.now tlsa2_lengths.now tlsa2_records.now certificates.now certificate_lengths.now key_places.now digests.now paths.now dns_ids.now dns_id_lengths.now common_name.now) result }
 {
-    let _next_hop = is_bytes(next_hop);
-    let _expanded_next_hop = is_bytes(expanded_next_hop);
-    let _host = is_bytes(host);
-    let _expanded = is_bytes(expanded);
-    let _policy = is_bytes(policy);
-    let _tlsa1_lengths = is_bytes(tlsa1_lengths);
-    let _tlsa1_records = is_bytes(tlsa1_records);
-    let _tlsa2_lengths = is_bytes(tlsa2_lengths);
-    let _tlsa2_records = is_bytes(tlsa2_records);
-    let _certificates = is_bytes(certificates);
-    let _certificate_lengths = is_bytes(certificate_lengths);
-    let _key_places = is_bytes(key_places);
-    let _digests = is_bytes(digests);
-    let _paths = is_bytes(paths);
-    let _dns_ids = is_bytes(dns_ids);
-    let _dns_id_lengths = is_bytes(dns_id_lengths);
-    let _common_name = is_bytes(common_name);
-    hosts::judge_call(
-        clock,
+    hosts::judge(&HostCall {
+        numbers: Numbers {
+            clock,
+            expanded_next_hop_given,
+            origin,
+            address,
+            policy_given,
+            fetched,
+            tlsa_answers,
+            tlsa1_result,
+            tlsa2_result,
+            starttls,
+            handshake,
+            tls_version,
+            certificates_given,
+            trusted_root,
+            common_name_given,
+        },
         next_hop,
-        expanded_next_hop_given,
         expanded_next_hop,
-        origin,
         host,
-        address,
         expanded,
-        policy_given,
         policy,
-        fetched,
-        tlsa_answers,
-        tlsa1_result,
-        tlsa1_lengths,
-        tlsa1_records,
-        tlsa2_result,
-        tlsa2_lengths,
-        tlsa2_records,
-        starttls,
-        handshake,
-        tls_version,
-        certificates_given,
-        certificates,
-        certificate_lengths,
-        key_places,
-        digests,
-        paths,
-        trusted_root,
-        dns_ids,
-        dns_id_lengths,
-        common_name_given,
+        tlsa1: Pieces {
+            bytes: tlsa1_records,
+            lengths: tlsa1_lengths,
+        },
+        tlsa2: Pieces {
+            bytes: tlsa2_records,
+            lengths: tlsa2_lengths,
+        },
+        chain: Chain {
+            certificates,
+            lengths: certificate_lengths,
+            key_places,
+            digests,
+            paths,
+        },
+        dns_ids: Pieces {
+            bytes: dns_ids,
+            lengths: dns_id_lengths,
+        },
         common_name,
-    )
+    })
 }
 
 // Which DNS-IDs and which common name does this certificate have, and where does its public key info stand?
@@ -185,40 +169,50 @@ pub fn tweedstork_judge_host_certificate<'a>(
 ) -> HostAnswer
     ensures { result ≡ certificate_answer (arguments_of (record { clock = clock; expanded_next_hop_given = expanded_next_hop_given; origin = origin; address = address; policy_given = policy_given; fetched = fetched; tlsa_answers = tlsa_answers; tlsa1_result = tlsa1_result; tlsa2_result = tlsa2_result; starttls = starttls; handshake = handshake; tls_version = tls_version; certificates_given = certificates_given; trusted_root = trusted_root; common_name_given = 2 }) next_hop.now expanded_next_hop.now host.now expanded.now policy.now tlsa1_lengths.now tlsa1_records.now tlsa2_lengths.now tlsa2_records.now certificates.now certificate_lengths.now key_places.now digests.now paths.now [] [] []) }
 {
-    let n = Numbers {
-        clock,
-        expanded_next_hop_given,
-        origin,
-        address,
-        policy_given,
-        fetched,
-        tlsa_answers,
-        tlsa1_result,
-        tlsa2_result,
-        starttls,
-        handshake,
-        tls_version,
-        certificates_given,
-        trusted_root,
-        common_name_given: 2,
-    };
-    judging::judge_host_certificate(
-        n,
+    judging::judge_host_certificate(&HostCall {
+        numbers: Numbers {
+            clock,
+            expanded_next_hop_given,
+            origin,
+            address,
+            policy_given,
+            fetched,
+            tlsa_answers,
+            tlsa1_result,
+            tlsa2_result,
+            starttls,
+            handshake,
+            tls_version,
+            certificates_given,
+            trusted_root,
+            common_name_given: 2,
+        },
         next_hop,
         expanded_next_hop,
         host,
         expanded,
         policy,
-        tlsa1_lengths,
-        tlsa1_records,
-        tlsa2_lengths,
-        tlsa2_records,
-        certificates,
-        certificate_lengths,
-        key_places,
-        digests,
-        paths,
-    )
+        tlsa1: Pieces {
+            bytes: tlsa1_records,
+            lengths: tlsa1_lengths,
+        },
+        tlsa2: Pieces {
+            bytes: tlsa2_records,
+            lengths: tlsa2_lengths,
+        },
+        chain: Chain {
+            certificates,
+            lengths: certificate_lengths,
+            key_places,
+            digests,
+            paths,
+        },
+        dns_ids: Pieces {
+            bytes: &[],
+            lengths: &[],
+        },
+        common_name: &[],
+    })
 }
 
 // Which of a message's hosts decides?
@@ -248,18 +242,7 @@ pub fn tweedstork_cache_store<'a, 'b, 'c>(
         × (table.new ≡ table_after clock domain.now id.now policy.now table.old texts.old)
         × (texts.new ≡ texts_after clock domain.now id.now policy.now table.old texts.old) }
 {
-    let n = table.len();
-    let m = texts.len();
-    let start = cache::begin(n, m);
-    let own = cache::scan(true, clock, domain, start, table, texts);
-    let found = cache::scan(false, clock, domain, own, table, texts);
-    let plan = cache::plan_store(clock, domain, id, policy, n, m, found);
-    cache::put(table, plan.place, plan.entry);
-    cache::put_text(plan.place, policy, texts);
-    WriteAnswer {
-        number: plan.number,
-        length: 0,
-    }
+    cache::store(clock, domain, id, policy, table, texts)
 }
 
 // Which live policy does the table hold for this domain?
@@ -271,10 +254,7 @@ pub fn tweedstork_cache_lookup(
 ) -> CacheAnswer
     ensures { result ≡ lookup_answer clock domain.now table.now texts.now }
 {
-    let n = table.len();
-    let start = cache::begin(n, texts.len());
-    let found = cache::scan(true, clock, domain, start, table, texts);
-    cache::lookup_answer(clock, domain, n, texts, found)
+    cache::lookup(clock, domain, table, texts)
 }
 
 // The text of the TXT record that says which policy a domain has.

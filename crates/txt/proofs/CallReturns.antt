@@ -1,23 +1,26 @@
 -- The returns of `write_one` and `read_txt`: what they answer, and what they leave in the output. Assumes nothing.
 use Prim.Native.Nat.{ℕ, ◌-◌, ◌<◌, ◌≤◌}
-use mathlib.Core.Path.{◌≡◌, refl, sym, ap, subst, ◌∙◌}
+use mathlib.Core.Path.{◌≡◌, refl, sym, ap, ◌∙◌}
 use mathlib.Core.Bool.{Bool, true, false}
 use mathlib.Core.List.{List, [], ◌∷◌, ◌++◌}
 use native.Mathlib.Omega.{arith}
 use lib.ListN.{length, take, drop}
 use lib.Seq.{take_at}
 use borrow.Author.Rules.{rules}
-use borrow.Author.Tests.{not-true, not-false, le-leb, lt-leb}
+use borrow.Author.Tests.{le-leb, lt-leb}
 use Rattle.lists.specs.Span.{begins}
 use Rattle.lists.specs.Text.{text}
-use Rattle.numbers.specs.Numbers.{is_whole}
+use Rattle.numbers.specs.Numbers.{numbers, is_whole}
 use Rattle.lists.proofs.Span.{begins_front}
 use Rattle.txt.specs.declared.TxtAnswer.{TxtAnswer}
-use Rattle.txt.specs.declared.Found.{Found}
+use Rattle.txt.specs.declared.Refusal.{Refusal}
+use Rattle.txt.specs.declared.Refusal.TheVariants.{NoRecord, SeveralRecords, Grammar, WireForm, OutputTooShort}
+use Rattle.std.specs.Prelude.{Ok, Err}
+use denote.Ref.{Bor}
 use Rattle.txt.specs.Rdata.{is_wire_form, joined}
 use Rattle.txt.specs.Grammar.{version}
 use Rattle.txt.specs.Txt.{is_candidate, Outcome, refused, wrote, chosen, outcome, refusal, grammar, txt_answer, output_of, read_txt, wrote_txt}
-use Rattle.txt.specs.Steps.{OneIs, SeenIs, FoundIs, wire_from, candidates_from}
+use Rattle.txt.specs.Steps.{CandidateIs, refusal_number, answered, wire_left, candidates_left}
 use Rattle.txt.proofs.Candidates.{wire_odd, wire_whole, found_start}
 
 -- a candidate begins with the version
@@ -108,72 +111,45 @@ module _ (s l d : List ℕ) (w : Bool) (gave : w ≡ is_whole l) where
     pub odd_kept : d ≡ wrote_txt s l d
     odd_kept = refused_kept s l d 43 odd
 
-  module _ (y : w ≡ true) (r : Found) (is : FoundIs s l r) where
-    wire : is_wire_form s l ≡ wire_from s l 0 0
+  module _ (y : w ≡ true) where
+    wire : is_wire_form s l ≡ wire_left s (numbers l)
     wire = wire_whole s l (sym gave ∙ y)
 
-    -- a broken wire form
-    module _ (q : r ≡ Found.Broken) where
-      broken : outcome s l (length d) ≡ refused 43
-      unfolding FoundIs
-      broken = broken_by (wire ∙ subst (λ (z : Found). FoundIs s l z) q is)
-
-      pub broken_answer : (x : TxtAnswer) → x ≡ refusal 43 → x ≡ read_txt s l (length d)
-      broken_answer x e = refused_answer s l d 43 broken x e
-
-      pub broken_kept : d ≡ wrote_txt s l d
-      broken_kept = refused_kept s l d 43 broken
-
-    sound : wire_from s l 0 0 ≡ true → outcome s l (length d) ≡ chosen (candidates_from s l 0 0) (length d)
+    sound : wire_left s (numbers l) ≡ true → outcome s l (length d) ≡ chosen (candidates_left s (numbers l)) (length d)
     unfolding outcome
     sound t = rw (wire, t, found_start s l)
 
-    -- none
-    module _ (q : r ≡ Found.Nothing) where
-      none_left : outcome s l (length d) ≡ refused 40
-      unfolding FoundIs SeenIs
-      none_left = let f : (wire_from s l 0 0 ≡ true) × (candidates_from s l 0 0 ≡ []) = subst (λ (z : Found). FoundIs s l z) q is in sound f.0 ∙ chosen_none (candidates_from s l 0 0) (length d) f.1
+    -- no one candidate
+    refused_by : (r : Refusal) → CandidateIs s l (Err r) → outcome s l (length d) ≡ refused (refusal_number r)
+    unfolding CandidateIs
+    refused_by NoRecord is = sound is.0 ∙ chosen_none (candidates_left s (numbers l)) (length d) is.1
+    refused_by SeveralRecords is = sound is.0 ∙ chosen_several (candidates_left s (numbers l)) (length d) is.1
+    refused_by Grammar is = absurd is
+    refused_by WireForm is = broken_by (wire ∙ is)
+    refused_by OutputTooShort is = absurd is
 
-      pub none_answer : (x : TxtAnswer) → x ≡ refusal 40 → x ≡ read_txt s l (length d)
-      none_answer x e = refused_answer s l d 40 none_left x e
+    pub no_one_answer : (r : Refusal) → CandidateIs s l (Err r) → answered (Err r) ≡ read_txt s l (length d)
+    no_one_answer r is = refused_answer s l d (refusal_number r) (refused_by r is) (refusal (refusal_number r)) refl
 
-      pub none_kept : d ≡ wrote_txt s l d
-      none_kept = refused_kept s l d 40 none_left
+    pub no_one_kept : (r : Refusal) → CandidateIs s l (Err r) → d ≡ wrote_txt s l d
+    no_one_kept r is = refused_kept s l d (refusal_number r) (refused_by r is)
 
-    -- several
-    module _ (q : r ≡ Found.Several) where
-      several : outcome s l (length d) ≡ refused 41
-      unfolding FoundIs SeenIs
-      several = let f : (wire_from s l 0 0 ≡ true) × (2 ≤ length (candidates_from s l 0 0)) = subst (λ (z : Found). FoundIs s l z) q is in sound f.0 ∙ chosen_several (candidates_from s l 0 0) (length d) f.1
+    -- one, the RDATA p
+    module _ (p : Bor (List ℕ)) (is : CandidateIs s l (Ok p)) where
+      facts : (wire_left s (numbers l) ≡ true) × (candidates_left s (numbers l) ≡ joined p.now ∷ []) × (is_candidate (joined p.now) ≡ true)
+      unfolding CandidateIs
+      facts = is
 
-      pub several_answer : (x : TxtAnswer) → x ≡ refusal 41 → x ≡ read_txt s l (length d)
-      several_answer x e = refused_answer s l d 41 several x e
+      one : outcome s l (length d) ≡ chosen (joined p.now ∷ []) (length d)
+      one = sound facts.0 ∙ rw facts.1
 
-      pub several_kept : d ≡ wrote_txt s l d
-      several_kept = refused_kept s l d 41 several
+      pub one_kept : is_candidate (joined p.now) ≡ true
+      one_kept = facts.2
 
-    -- one, the RDATA from a to e
-    module _ (a e : ℕ) (q : r ≡ Found.One a e) where
-      is_one : (wire_from s l 0 0 ≡ true) × (OneIs s (candidates_from s l 0 0) [] a e)
-      unfolding FoundIs SeenIs
-      is_one = subst (λ (z : Found). FoundIs s l z) q is
+      pub one_answer : (x : TxtAnswer) → x ≡ txt_answer (chosen (joined p.now ∷ []) (length d)) → x ≡ read_txt s l (length d)
+      one_answer x g = g ∙ answer_by s l d (chosen (joined p.now ∷ []) (length d)) one
 
-      one : outcome s l (length d) ≡ chosen (joined (take (e - a) (drop a s)) ∷ []) (length d)
-      one = sound is_one.0 ∙ rw is_one.1.first
+      pub one_wrote : (out : List ℕ) → out ≡ output_of (chosen (joined p.now ∷ []) (length d)) d → out ≡ wrote_txt s l d
+      one_wrote out g = g ∙ output_by s l d (chosen (joined p.now ∷ []) (length d)) one
 
-      pub one_order : a ≤ e
-      one_order = is_one.1.order
-
-      pub one_inside : e ≤ length s
-      one_inside = is_one.1.inside
-
-      pub one_kept : is_candidate (joined (take (e - a) (drop a s))) ≡ true
-      one_kept = is_one.1.kept
-
-      pub one_answer : (x : TxtAnswer) → x ≡ txt_answer (chosen (joined (take (e - a) (drop a s)) ∷ []) (length d)) → x ≡ read_txt s l (length d)
-      one_answer x g = g ∙ answer_by s l d (chosen (joined (take (e - a) (drop a s)) ∷ []) (length d)) one
-
-      pub one_wrote : (out : List ℕ) → out ≡ output_of (chosen (joined (take (e - a) (drop a s)) ∷ []) (length d)) d → out ≡ wrote_txt s l d
-      one_wrote out g = g ∙ output_by s l d (chosen (joined (take (e - a) (drop a s)) ∷ []) (length d)) one
-
-pub ruleset read_laws = (odd_answer, odd_kept, broken_answer, broken_kept, none_answer, none_kept, several_answer, several_kept, one_order, one_inside, one_kept, one_answer, one_wrote, not-true, not-false, rules)
+pub ruleset read_laws = (odd_answer, odd_kept, no_one_answer, no_one_kept, one_kept, one_answer, one_wrote)

@@ -13,14 +13,14 @@ use borrow.Author.Tests.{lt-ltb, le-ltb, eq-eqb, ne_eqb}
 use Rattle.lists.specs.Span.{span_of, begins}
 use Rattle.lists.proofs.Laws.{drop_next}
 use Rattle.lists.proofs.Span.{span_le}
-use Rattle.fields.specs.declared.Field as F
+use Rattle.std.specs.Prelude.{Option, Some, None, Ok, Err}
 use Rattle.fields.specs.Blank.{blank, after_blanks}
 use Rattle.fields.specs.Name.{has_name, field_at}
 use Rattle.fields.proofs.Name.{named_has, named_place, named_inside, named_before, named_rest, malformed_has}
-use Rattle.txt.specs.declared.Step.{Step}
+use Rattle.txt.specs.declared.Refusal.{Refusal}
 use Rattle.txt.specs.Paper.{value_byte}
 use Rattle.txt.specs.Grammar.{has_delimiter, after_delimiter, name_of, after_name, value_of, after_field, has_field, one_more, fields_in, fields_of}
-use Rattle.txt.specs.Steps.{StepIs}
+use Rattle.txt.specs.Steps.{FieldAt}
 
 -- ---- the bound on how many fields are read is large enough
 
@@ -72,8 +72,8 @@ module _ (s : List ℕ) (some_left : length s ≡ 0 → ⊥) where
 
 -- ---- what stands at the byte `at` of t: the returns of `step_at`
 
-pub step_end : (t : List ℕ) (at : ℕ) → length t ≤ at → StepIs t at Step.End
-unfolding StepIs
+pub step_end : (t : List ℕ) (at : ℕ) → length t ≤ at → FieldAt t at (Ok None)
+unfolding FieldAt
 step_end t at h = fields_none (drop at t) (omega (arith, length-drop at t))
 
 -- the blanks at `at` go up to p
@@ -88,18 +88,18 @@ module _ (t : List ℕ) (at : ℕ) (w : at < length t) (p : ℕ) (blanks : p ≡
   unfolding has_delimiter begins
   none_there h = rw (past_blanks, drop_of_length-le t h)
 
-  pub step_unended : length t ≤ p → StepIs t at Step.Broken
-  unfolding StepIs
-  step_unended h = no_delimiter (drop at t) left (none_there h)
+  pub step_unended : length t ≤ p → FieldAt t at (Err Refusal.Grammar)
+  unfolding FieldAt
+  step_unended h = (no_delimiter (drop at t) left (none_there h), refl)
 
   module _ (h : p < length t) where
     sign : has_delimiter (drop at t) ≡ eqb (get_or t p 0) 59
     unfolding has_delimiter begins
     sign = rw (past_blanks, drop_next t p h) (and-true (eqb (get_or t p 0) 59))
 
-    pub step_other : (get_or t p 0 ≡ 59 → ⊥) → StepIs t at Step.Broken
-    unfolding StepIs
-    step_other d = no_delimiter (drop at t) left (sign ∙ ne_eqb (get_or t p 0) 59 d)
+    pub step_other : (get_or t p 0 ≡ 59 → ⊥) → FieldAt t at (Err Refusal.Grammar)
+    unfolding FieldAt
+    step_other d = (no_delimiter (drop at t) left (sign ∙ ne_eqb (get_or t p 0) 59 d), refl)
 
     -- the delimiter goes up to a
     module _ (semicolon : get_or t p 0 ≡ 59) (a : ℕ) (blanks_after : a ≡ p + 1 + span_of blank (drop (p + 1) t)) where
@@ -110,12 +110,12 @@ module _ (t : List ℕ) (at : ℕ) (w : at < length t) (p : ℕ) (blanks : p ≡
       unfolding after_delimiter
       past_delimiter = rw (past_blanks, drop-drop 1 p t) (cc (drop-drop (span_of blank (drop (p + 1) t)) (p + 1) t))
 
-      pub step_last : length t ≤ a → StepIs t at Step.End
-      unfolding StepIs
+      pub step_last : length t ≤ a → FieldAt t at (Ok None)
+      unfolding FieldAt
       step_last k = last_delimiter (drop at t) left delimiter (rw past_delimiter (omega (arith, length-drop a t)))
 
       -- f is what `name_end` gave of the name from a on
-      module _ (wa : a < length t) (f : F.Field) (gave : f ≡ field_at 61 t a) where
+      module _ (wa : a < length t) (f : Option ℕ) (gave : f ≡ field_at 61 t a) where
         more : length (after_delimiter (drop at t)) ≡ 0 → ⊥
         more z = omega (arith, ap length past_delimiter, length-drop a t)
 
@@ -123,12 +123,12 @@ module _ (t : List ℕ) (at : ℕ) (w : at < length t) (p : ℕ) (blanks : p ≡
         unfolding has_field
         nameless n = rw n
 
-        pub step_nameless : f ≡ F.Field.Malformed → StepIs t at Step.Broken
-        unfolding StepIs
-        step_nameless q = no_field (drop at t) left delimiter more (rw past_delimiter (nameless (malformed_has 61 t a f gave q)))
+        pub step_nameless : f ≡ None → FieldAt t at (Err Refusal.Grammar)
+        unfolding FieldAt
+        step_nameless q = (no_field (drop at t) left delimiter more (rw past_delimiter (nameless (malformed_has 61 t a f gave q))), refl)
 
         -- the name goes up to e, and the value up to v
-        module _ (e : ℕ) (q : f ≡ F.Field.Named e) (v : ℕ) (values : v ≡ e + 1 + span_of value_byte (drop (e + 1) t)) where
+        module _ (e : ℕ) (q : f ≡ Some e) (v : ℕ) (values : v ≡ e + 1 + span_of value_byte (drop (e + 1) t)) where
           past_name : after_name (drop a t) ≡ drop (e + 1) t
           unfolding after_name
           past_name = sym (named_rest 61 t a f gave e q)
@@ -148,16 +148,16 @@ module _ (t : List ℕ) (at : ℕ) (w : at < length t) (p : ℕ) (blanks : p ≡
           unfolding has_field
           has_field_lem = rw (named_has 61 t a f gave e q, value_length)
 
-          pub step_valueless : v - e ≤ 1 → StepIs t at Step.Broken
-          unfolding StepIs
-          step_valueless k = no_field (drop at t) left delimiter more (rw (past_delimiter, has_field_lem) (le-ltb 0 (v - (e + 1)) (omega arith)))
+          pub step_valueless : v - e ≤ 1 → FieldAt t at (Err Refusal.Grammar)
+          unfolding FieldAt
+          step_valueless k = (no_field (drop at t) left delimiter more (rw (past_delimiter, has_field_lem) (le-ltb 0 (v - (e + 1)) (omega arith))), refl)
 
           past_field : after_field (drop a t) ≡ drop v t
           unfolding after_field
           past_field = rw past_name (cc (values, drop-drop (span_of value_byte (drop (e + 1) t)) (e + 1) t))
 
-          pub step_field : 1 < v - e → StepIs t at (Step.Field a e v)
-          unfolding StepIs
+          pub step_field : 1 < v - e → FieldAt t at (Ok (Some (record { name = a; equals = e; end = v })))
+          unfolding FieldAt
           step_field k = record {
             later = omega arith;
             named = omega (arith, named_place 61 t a f gave e q);

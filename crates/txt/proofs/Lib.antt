@@ -1,5 +1,4 @@
 pub mod Strings
-pub mod Writing
 pub mod Candidates
 pub mod ValueMarks
 pub mod Forms
@@ -10,3 +9,4 @@ pub mod Paper
 pub mod Sanity
 pub mod Exactly
 mod Worked
+pub mod Writing

@@ -1,20 +1,19 @@
 -- The character strings of an RDATA: their laws, and the turns of the loops over them. Assumes nothing.
-use Prim.Native.Nat.{ℕ, zero, suc, ◌+◌, ◌-◌, ◌<◌, ◌≤◌}
+use Prim.Native.Nat.{ℕ, zero, suc, min, ◌+◌, ◌-◌, ◌<◌, ◌≤◌}
 use mathlib.Core.Path.{◌≡◌, refl, sym, ap, ◌∙◌}
-use mathlib.Core.Bool.{Bool, true, false, ◌&&◌, and-false}
+use mathlib.Core.Bool.{Bool, true, false, ◌&&◌, and-true, and-false}
 use mathlib.Core.List.{List, [], ◌∷◌, ◌++◌, flatten}
 use native.Mathlib.Omega.{arith}
-use lib.Dec.{eqb, leb}
-use lib.ListN.{length, get_or, take, drop, length-append, length-drop, drop_of_length-le}
-use lib.Seq.{drop-drop, drop-nil, take-nil, length-take-le}
+use lib.Dec.{eqb, leb, ltb}
+use lib.ListN.{length, get_or, take, drop, length-append, length-drop, take-append-drop, drop_of_length-le}
+use Rattle.std.proofs.lemmas.List.{take_min, drop_min}
 use borrow.Author.Rules.{rules}
-use borrow.Author.Tests.{lt-ltb, le-ltb, le-leb, lt-leb, eq-eqb, ne_eqb}
+use borrow.Author.Tests.{le-leb, lt-leb}
+use Rattle.lists.proofs.Bools.{never, and_both}
 use Rattle.lists.specs.Equal.{agree, same_byte}
 use Rattle.lists.specs.Span.{begins}
 use Rattle.lists.specs.Text.{text}
-use Rattle.lists.proofs.Laws.{drop_next, take_rest}
-use Rattle.numbers.specs.Pieces.{end_of}
-use Rattle.numbers.proofs.Pieces.{end_take, end_drop, end_after, end_within}
+use Rattle.lists.proofs.Laws.{take_rest}
 use Rattle.txt.specs.Rdata.{strings_in, strings, fit_in, strings_fit, is_rdata, joined}
 use Rattle.txt.specs.Txt.{is_candidate}
 
@@ -56,131 +55,67 @@ pub joined_cons : (n : ℕ) (s : List ℕ) → joined (n ∷ s) ≡ take n s ++ 
 unfolding joined flatten
 joined_cons n s = rw (strings_cons n s)
 
--- ---- `is_rdata`: a turn of its loop, and its returns
+pub strings_none : (s : List ℕ) → length s ≡ 0 → strings s ≡ []
+unfolding strings strings_in
+strings_none [] e = refl
+strings_none (n ∷ s) e = absurd (omega arith)
 
-module _ (s : List ℕ) where
-  pub rdata_empty : length s ≡ 0 → false ≡ is_rdata s
-  unfolding is_rdata
-  rdata_empty h = rw (le-ltb 0 (length s) (omega arith))
+-- a string is cut off where the RDATA ends: n is its length, end the lesser of that and what is left
+pub next_string : (s after : List ℕ) (n end : ℕ) → s ≡ n ∷ after → end ≡ min n (length after) → strings s ≡ take end after ∷ strings (take (length after - end) (drop end after))
+next_string s after n end e m = rw (e, strings_cons n after, take_rest after end, m, take_min n after, drop_min n after) refl
 
-  pub rdata_start : (length s ≡ 0 → ⊥) → is_rdata s ≡ strings_fit (drop 0 s)
-  unfolding is_rdata
-  rdata_start h = let k : 0 < length s = omega arith in rw (lt-ltb 0 (length s) k)
+joined_short_in : (k : ℕ) (s : List ℕ) → length (flatten (strings_in k s)) ≤ length s
+unfolding strings_in flatten
+joined_short_in zero s = omega arith
+joined_short_in (suc k) [] = omega arith
+joined_short_in (suc k) (n ∷ s) = omega (arith, joined_short_in k (drop n s), length-append (take n s) (flatten (strings_in k (drop n s))), ap length (take-append-drop n s), length-append (take n s) (drop n s))
 
-  module _ (i : ℕ) (inv : is_rdata s ≡ strings_fit (drop i s)) where
-    pub rdata_end : length s ≤ i → true ≡ is_rdata s
-    unfolding strings_fit fit_in
-    rdata_end h = cc (drop_of_length-le s h)
+pub joined_short : (s : List ℕ) → length (joined s) ≤ length s
+unfolding joined strings
+joined_short s = joined_short_in (length s) s
 
-    module _ (n : ℕ) (gave : n ≡ get_or s i 0) (h : i < length s) where
-      fits_here : strings_fit (drop i s) ≡ (leb n (length s - (i + 1)) && strings_fit (drop (i + 1 + n) s))
-      fits_here = cc (drop_next s i h, fit_cons n (drop (i + 1) s), length-drop (i + 1) s, drop-drop n (i + 1) s)
+-- ---- `is_rdata`: a turn of its loop, and its end
 
-      pub rdata_past : length s - (i + 1) < n → false ≡ is_rdata s
-      rdata_past l = cc (fits_here, lt-leb n (length s - (i + 1)) l)
+pub fit_none : (s : List ℕ) → length s ≡ 0 → strings_fit s ≡ true
+unfolding strings_fit fit_in
+fit_none [] e = refl
+fit_none (n ∷ s) e = absurd (omega arith)
 
-      pub rdata_next : n ≤ length s - (i + 1) → is_rdata s ≡ strings_fit (drop (i + 1 + n) s)
-      rdata_next l = cc (fits_here, le-leb n (length s - (i + 1)) l)
+module _ (s after : List ℕ) (n : ℕ) (e : s ≡ n ∷ after) where
+  pub fit_past : length after < n → strings_fit s ≡ false
+  fit_past l = rw (e, fit_cons n after, lt-leb n (length after) l) refl
 
-pub ruleset rdata_laws = (rdata_empty, rdata_start, rdata_end, rdata_past, rdata_next, rules)
+  pub fit_next : n ≤ length after → strings_fit s ≡ strings_fit (take (length after - n) (drop n after))
+  fit_next l = rw (e, fit_cons n after, le-leb n (length after) l, take_rest after n) refl
 
--- ---- the text of an RDATA, string by string: e is where the string at i ends
+pub rdata_unfit : (s : List ℕ) → strings_fit s ≡ false → false ≡ is_rdata s
+unfolding is_rdata
+rdata_unfit s e = rw e (sym (and-false (ltb 0 (length s))))
 
--- `string_end`: n is what `wide` gave, r what `end_of` gave
-module _ (s : List ℕ) (i n r : ℕ) (ends : r ≡ end_of (length s) (i + 1) n) where
-  pub string_is : n ≡ get_or s i 0 → r ≡ end_of (length s) (i + 1) (get_or s i 0)
-  string_is g = cc
+pub rdata_fit : (s : List ℕ) → strings_fit s ≡ true → ltb 0 (length s) ≡ is_rdata s
+unfolding is_rdata
+rdata_fit s e = rw e (sym (and-true (ltb 0 (length s))))
 
-  pub string_after : i < length s → i < r
-  string_after h = let w : i + 1 ≤ length s = omega arith in omega (arith, end_after s (i + 1) n r ends w)
-
-  pub string_inside : i < length s → r ≤ length s
-  string_inside h = let w : i + 1 ≤ length s = omega arith in end_within s (i + 1) n r ends w
-
-pub ruleset string_laws = (string_is, string_after, string_inside, rules)
-
-module _ (s : List ℕ) (i e : ℕ) (ends : e ≡ end_of (length s) (i + 1) (get_or s i 0)) (h : i < length s) where
-  pub string_length : length (take (e - (i + 1)) (drop (i + 1) s)) ≡ e - (i + 1)
-  string_length = length-take-le (e - (i + 1)) (drop (i + 1) s) (omega (arith, length-drop (i + 1) s, string_inside s i (get_or s i 0) e ends h))
-
-  pub string_next : joined (drop i s) ≡ take (e - (i + 1)) (drop (i + 1) s) ++ joined (drop e s)
-  string_next =
-      let w : i + 1 ≤ length s = omega arith in
-      cc (drop_next s i h, joined_cons (get_or s i 0) (drop (i + 1) s), end_take s (i + 1) (get_or s i 0) e ends w, end_drop s (i + 1) (get_or s i 0) e ends w)
-
-pub at_last : (s : List ℕ) (i : ℕ) → length s ≤ i → joined (drop i s) ≡ []
-at_last s i h = rw (drop_of_length-le s h) joined_none
-
--- `joined_length`
-module _ (s : List ℕ) (i n : ℕ) (inv : n + length (joined (drop i s)) ≡ length (joined s)) where
-  pub length_end : length s ≤ i → n ≡ length (joined s)
-  length_end h = omega (arith, ap length (at_last s i h))
-
-  pub length_next : (e : ℕ) → e ≡ end_of (length s) (i + 1) (get_or s i 0) → i < length s → n + (e - (i + 1)) + length (joined (drop e s)) ≡ length (joined s)
-  length_next e ends h = omega (arith, ap length (string_next s i e ends h), string_length s i e ends h, length-append (take (e - (i + 1)) (drop (i + 1) s)) (joined (drop e s)))
-
-pub ruleset length_laws = (length_end, length_next, rules)
-
--- ---- `is_candidate`: the text byte by byte
+-- ---- the text of an RDATA, string by string: xs are the strings still to come, x the first of them
 
 abbrev pub tag : List ℕ
 tag = text "v=STSv1;"
 
--- the text of the bytes s, where `left` bytes of a string are still to come
-unfoldable pub text_from : ℕ → List ℕ → List ℕ
-text_from left s = take left s ++ joined (drop left s)
-
-module _ (s : List ℕ) (left i : ℕ) where
-  none_left : length s ≤ i → text_from left (drop i s) ≡ []
-  unfolding text_from
-  none_left h = rw (drop_of_length-le s h, take-nil left, drop-nil left) joined_none
-
-  module _ (h : i < length s) where
-    at_length : left ≡ 0 → (b : ℕ) → b ≡ get_or s i 0 → text_from left (drop i s) ≡ text_from b (drop (i + 1) s)
-    unfolding text_from
-    at_length z b e = cc (drop_next s i h, joined_cons b (drop (i + 1) s))
-
-    at_byte : (left ≡ 0 → ⊥) → text_from left (drop i s) ≡ get_or s i 0 ∷ text_from (left - 1) (drop (i + 1) s)
-    unfolding text_from
-    at_byte z =
-        let k : left ≡ suc (left - 1) = omega arith in
-        rw (drop_next s i h) (go left (left - 1) k)
-      where
-        go : (l m : ℕ) → l ≡ suc m → (take l (get_or s i 0 ∷ drop (i + 1) s) ++ joined (drop l (get_or s i 0 ∷ drop (i + 1) s))) ≡ get_or s i 0 ∷ (take m (drop (i + 1) s) ++ joined (drop m (drop (i + 1) s)))
-        go l m e = rw e
-
-pub tag_start : (s : List ℕ) → is_candidate (joined s) ≡ begins (drop 0 tag) (text_from 0 (drop 0 s))
-unfolding is_candidate text_from
+pub tag_start : (s : List ℕ) → is_candidate (joined s) ≡ begins tag (flatten (strings s))
+unfolding is_candidate joined
 tag_start s = refl
 
-module _ (s : List ℕ) (left i k : ℕ) (inv : is_candidate (joined s) ≡ begins (drop k tag) (text_from left (drop i s))) (w : k < 8) where
-  tag_here : drop k tag ≡ get_or tag k 0 ∷ drop (k + 1) tag
-  tag_here = drop_next tag k w
+module _ (xs : List (List ℕ)) (x : List ℕ) (ys : List (List ℕ)) (e : xs ≡ x ∷ ys) where
+  pub flatten_next : flatten xs ≡ x ++ flatten ys
+  unfolding flatten
+  flatten_next = rw e refl
 
-  pub tag_end : length s ≤ i → false ≡ is_candidate (joined s)
-  unfolding begins
-  tag_end h = cc (tag_here, none_left s left i h)
+  pub flatten_length : length (flatten xs) ≡ length x + length (flatten ys)
+  flatten_length = ap length flatten_next ∙ length-append x (flatten ys)
 
-  module _ (h : i < length s) where
-    pub tag_length : left ≡ 0 → (b : ℕ) → b ≡ get_or s i 0 → is_candidate (joined s) ≡ begins (drop k tag) (text_from b (drop (i + 1) s))
-    tag_length z b e = cc (at_length s left i h z b e)
-
-    module _ (z : left ≡ 0 → ⊥) where
-      pub tag_differs : (get_or s i 0 ≡ get_or tag k 0 → ⊥) → false ≡ is_candidate (joined s)
-      unfolding begins
-      tag_differs d = cc (tag_here, at_byte s left i h z, ne_eqb (get_or s i 0) (get_or tag k 0) d)
-
-      pub tag_next : get_or s i 0 ≡ get_or tag k 0 → is_candidate (joined s) ≡ begins (drop (k + 1) tag) (text_from (left - 1) (drop (i + 1) s))
-      unfolding begins
-      tag_next d = cc (tag_here, at_byte s left i h z, eq-eqb (get_or s i 0) (get_or tag k 0) d)
-
-      pub tag_whole : get_or s i 0 ≡ get_or tag k 0 → 7 ≤ k → true ≡ is_candidate (joined s)
-      unfolding begins
-      tag_whole d l =
-          let e : k ≡ 7 = omega arith in
-          cc (tag_next d, e)
-
-pub ruleset tag_laws = (tag_start, tag_end, tag_length, tag_differs, tag_next, tag_whole, rules)
+pub flatten_none : (xs : List (List ℕ)) → xs ≡ [] → flatten xs ≡ []
+unfolding flatten
+flatten_none xs e = rw e refl
 
 -- ---- `is_tagged`: the tag in one string
 
@@ -195,6 +130,63 @@ unfolding begins agree same_byte
 begins_same [] t h = refl
 begins_same (x ∷ p) [] h = absurd (omega arith)
 begins_same (x ∷ p) (y ∷ t) h = rw (begins_same p t (omega arith)) refl
+
+-- what is left of the tag, held against the next n bytes, as many as both have
+begins_take : (p x t : List ℕ) (n : ℕ) → n ≤ length p → n ≤ length x → agree same_byte (take n x) (take n p) ≡ true → begins p (x ++ t) ≡ begins (drop n p) (drop n x ++ t)
+unfolding begins agree same_byte
+begins_take p x t zero hp hx a = refl
+begins_take [] x t (suc n) hp hx a = absurd (omega arith)
+begins_take (b ∷ p) [] t (suc n) hp hx a = absurd (omega arith)
+begins_take (b ∷ p) (c ∷ x) t (suc n) hp hx a =
+    let q = and_both (eqb c b) (agree same_byte (take n x) (take n p)) a in
+    rw (q.0, begins_take p x t n (omega arith) (omega arith) q.1) refl
+
+begins_differ : (p x t : List ℕ) (n : ℕ) → n ≤ length p → n ≤ length x → agree same_byte (take n x) (take n p) ≡ false → begins p (x ++ t) ≡ false
+unfolding begins agree same_byte
+begins_differ p x t zero hp hx a = never cc
+begins_differ [] x t (suc n) hp hx a = absurd (omega arith)
+begins_differ (b ∷ p) [] t (suc n) hp hx a = absurd (omega arith)
+begins_differ (b ∷ p) (c ∷ x) t (suc n) hp hx a = go (λ q. begins_differ p x t n (omega arith) (omega arith) q) (eqb c b) a
+  where
+    go : (agree same_byte (take n x) (take n p) ≡ false → begins p (x ++ t) ≡ false) → (v : Bool) → (v && agree same_byte (take n x) (take n p)) ≡ false → (v && begins p (x ++ t)) ≡ false
+    go f true q = f q
+    go f false q = refl
+
+-- xs are the strings still to come, p what is left of the tag; n bytes of the string x are held against it
+module _ (xs : List (List ℕ)) (x : List ℕ) (ys : List (List ℕ)) (e : xs ≡ x ∷ ys) (p : List ℕ) (n : ℕ) (least : n ≡ min (length x) (length p)) (r : Bool) (gave : r ≡ agree same_byte (take n x) (take n p)) where
+  tag_rest : take (length p - n) (drop n p) ≡ drop n p
+  tag_rest = take_rest p n
+
+  pub tag_differs : r ≡ false → begins p (flatten xs) ≡ false
+  tag_differs f = rw (flatten_next xs x ys e) (begins_differ p x (flatten ys) n (omega arith) (omega arith) (sym gave ∙ f))
+
+  pub tag_next : r ≡ true → begins p (flatten xs) ≡ begins (drop n p) (drop n x ++ flatten ys)
+  tag_next t = rw (flatten_next xs x ys e) (begins_take p x (flatten ys) n (omega arith) (omega arith) (sym gave ∙ t))
+
+  pub tag_whole : r ≡ true → length (take (length p - n) (drop n p)) ≡ 0 → begins p (flatten xs) ≡ true
+  unfolding begins
+  tag_whole t z = tag_next t ∙ go (drop n p) (rw tag_rest at z)
+    where
+      go : (q : List ℕ) → length q ≡ 0 → begins q (drop n x ++ flatten ys) ≡ true
+      go [] z = refl
+      go (c ∷ q) z = absurd (omega arith)
+
+  pub tag_goes_on : r ≡ true → (length (take (length p - n) (drop n p)) ≡ 0 → ⊥) → begins p (flatten xs) ≡ begins (take (length p - n) (drop n p)) (flatten ys)
+  tag_goes_on t z =
+      let z' = rw tag_rest at z in
+      let k : length x ≤ n = omega (arith, length-drop n p, z') in
+      tag_next t ∙ rw (drop_of_length-le x k, tag_rest) refl
+
+pub tag_unended : (p : List ℕ) (xs : List (List ℕ)) → xs ≡ [] → 0 < length p → begins p (flatten xs) ≡ false
+unfolding begins flatten
+tag_unended [] xs e h = absurd (omega arith)
+tag_unended (c ∷ p) xs e h = rw e refl
+
+pub ruleset tag_laws = (tag_start, tag_differs, tag_whole, tag_goes_on, tag_unended)
+
+pub ruleset length_laws = (flatten_length, flatten_none, joined_short)
+
+pub ruleset rdata_laws = (fit_past, fit_next, fit_none, rdata_unfit, rdata_fit)
 
 pub tagged_short : (t : List ℕ) → length t < 8 → false ≡ is_candidate t
 unfolding is_candidate

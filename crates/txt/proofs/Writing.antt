@@ -1,41 +1,38 @@
--- The turn of `join` and its end. Assumes nothing.
-use Prim.Native.Nat.{ℕ, ◌+◌, ◌-◌, ◌<◌, ◌≤◌}
-use mathlib.Core.Path.{◌≡◌, ap, ◌∙◌}
-use mathlib.Core.List.{List, ◌++◌}
+-- The turn of `joined_length` and that of `join`. Assumes nothing.
+use Prim.Native.Nat.{ℕ, ◌+◌, ◌-◌, ◌≤◌}
+use mathlib.Core.Path.{◌≡◌, refl, ap, ◌∙◌}
+use mathlib.Core.List.{List, [], ◌∷◌, ◌++◌, flatten}
 use native.Mathlib.Omega.{arith}
-use lib.ListN.{length, get_or, take, drop, length-drop}
+use lib.ListN.{length, take, drop, length-drop}
 use lib.Seq.{take-length}
-use borrow.Author.Rules.{rules}
 use Rattle.lists.specs.Write.{wrote_front}
 use Rattle.lists.proofs.Write.{piece_within, piece_drop, put_is, put_length}
-use Rattle.numbers.specs.Pieces.{end_of}
-use Rattle.txt.specs.Rdata.{joined}
-use Rattle.txt.proofs.Strings.{string_length, string_next, at_last}
+use Rattle.txt.proofs.Strings.{flatten_next, flatten_none}
 
--- `join`: n bytes of the text stand in the output, and what is left of it is the text of the strings from i on
-module _ (s : List ℕ) (i n : ℕ) (left : drop n (joined s) ≡ joined (drop i s)) (w : n ≤ length (joined s)) where
-  pub join_end : (d x : List ℕ) → length s ≤ i → x ≡ take n (joined s) ++ drop n d → x ≡ joined s ++ drop (length (joined s)) d
-  join_end d x h front =
-      let z : n ≡ length (joined s) = omega (arith, length-drop n (joined s), ap length (left ∙ at_last s i h)) in
-      front ∙ rw (z, take-length (joined s))
+-- n bytes of the text t stand in the output, which was d, and xs are the strings that are left
+module _ (t : List ℕ) (n : ℕ) (xs : List (List ℕ)) (left : drop n t ≡ flatten xs) (w : n ≤ length t) where
+  pub join_end : (d out : List ℕ) → xs ≡ [] → out ≡ take n t ++ drop n d → out ≡ t ++ drop (length t) d
+  join_end d out e front =
+      let z : n ≡ length t = omega (arith, length-drop n t, ap length (left ∙ flatten_none xs e)) in
+      front ∙ rw (z, take-length t) refl
 
-  -- the string at i ends at e
-  module _ (e : ℕ) (ends : e ≡ end_of (length s) (i + 1) (get_or s i 0)) (h : i < length s) where
-    string : drop n (joined s) ≡ take (e - (i + 1)) (drop (i + 1) s) ++ joined (drop e s)
-    string = left ∙ string_next s i e ends h
+  -- the next of them is x
+  module _ (x : List ℕ) (ys : List (List ℕ)) (e : xs ≡ x ∷ ys) where
+    string : drop n t ≡ x ++ flatten ys
+    string = left ∙ flatten_next xs x ys e
 
-    pub join_within : n + (e - (i + 1)) ≤ length (joined s)
-    join_within = piece_within (joined s) (take (e - (i + 1)) (drop (i + 1) s)) (joined (drop e s)) n (e - (i + 1)) (string_length s i e ends h) w string
+    pub join_within : n + length x ≤ length t
+    join_within = piece_within t x (flatten ys) n (length x) refl w string
 
-    pub join_left : drop (n + (e - (i + 1))) (joined s) ≡ joined (drop e s)
-    join_left = piece_drop (joined s) (take (e - (i + 1)) (drop (i + 1) s)) (joined (drop e s)) n (e - (i + 1)) (string_length s i e ends h) w string
+    pub join_left : drop (n + length x) t ≡ flatten ys
+    join_left = piece_drop t x (flatten ys) n (length x) refl w string
 
     -- y is what `write_front` left in the part of the output from n on
-    module _ (d x y : List ℕ) (front : x ≡ take n (joined s) ++ drop n d) (room : length (joined s) ≤ length d) (wrote : y ≡ wrote_front (take (e - (i + 1)) (drop (i + 1) s)) (take (length x - n) (drop n x))) where
-      pub join_put : take n x ++ (y ++ drop (length x - n) (drop n x)) ≡ take (n + (e - (i + 1))) (joined s) ++ drop (n + (e - (i + 1))) d
-      join_put = put_is (joined s) (take (e - (i + 1)) (drop (i + 1) s)) (joined (drop e s)) n (e - (i + 1)) (string_length s i e ends h) w string d x y front room wrote
+    module _ (d out y : List ℕ) (front : out ≡ take n t ++ drop n d) (room : length t ≤ length d) (wrote : y ≡ wrote_front x (take (length out - n) (drop n out))) where
+      pub join_put : take n out ++ (y ++ drop (length out - n) (drop n out)) ≡ take (n + length x) t ++ drop (n + length x) d
+      join_put = put_is t x (flatten ys) n (length x) refl w string d out y front room wrote
 
-      pub join_same : length (take n x ++ (y ++ drop (length x - n) (drop n x))) ≡ length d
-      join_same = rw join_put (put_length (joined s) (take (e - (i + 1)) (drop (i + 1) s)) (joined (drop e s)) n (e - (i + 1)) (string_length s i e ends h) w string d x y front room wrote)
+      pub join_same : length (take n out ++ (y ++ drop (length out - n) (drop n out))) ≡ length d
+      join_same = rw join_put (put_length t x (flatten ys) n (length x) refl w string d out y front room wrote)
 
-pub ruleset join_laws = (join_end, join_within, join_left, join_put, join_same, rules)
+pub ruleset join_laws = (join_end, join_within, join_left, join_put, join_same)

@@ -1,475 +1,322 @@
 // A certificate of the usual shape, seen field by field and without a walk over the table: one attribute in each set of the subject, no unique ids, and dNSNames alone in
-// GeneralNames. Where a function here does not see its part of that shape it says so, and the walk decides.
+// GeneralNames. Where a function here does not see its part of that shape it gives none, and the walk decides.
 #![tactic(auto)]
 
-ghost use Rattle.std.specs.Prelude.{◌≡◌, true, cond};
+ghost use Rattle.std.specs.Prelude.{◌≡◌, true, IfSome};
 ghost use Rattle.x509.specs.Found.{fields_of};
-ghost use Rattle.usual.specs.Shape.{end_of, FreeSeen, ExtensionEnds, AttributeEnds, AttributeSeen, SetSeen, SubjectSeen, NamesEnd, AltNamesEnd, AltNameEnds, ExtensionSeen, ExtensionsSeen, ListSeen, TailSeen, VersionSeen, SerialSeen, MiddleSeen, SubjectOnSeen, TbsSeen, FieldsSeen, CertificateSeen};
+ghost use Rattle.usual.specs.Shape.{tagged, alone, end_of, FreeSeen, ExtensionEnds, AttributeEnds, AttributeSeen, SetSeen, SubjectSeen, NamesEnd, AltNamesEnd, AltNameEnds, ExtensionSeen, ExtensionsSeen, ListSeen, TailSeen, VersionSeen, SerialSeen, MiddleSeen, SubjectOnSeen, TbsSeen, FieldsSeen, CertificateSeen};
 
-use der::{Header, Walk};
-use x509::{Fields, Noted};
+use der::{Fault, Head};
+use x509::{Found, Noted};
 
-// What is seen of the usual shape: a number, or another shape.
-#[derive(Clone, Copy)]
-pub enum Seen {
-    Is(usize),
-    Other,
+// How far a run has been seen, and the last offset that it notes, 0 where it has none so far.
+// The offset is a plain number as in x509's `Noted`, for speed.
+#[derive(Clone, Copy, Debug, PartialEq, Eq)]
+pub struct Seen {
+    pub at: usize,
+    pub noted: usize,
 }
 
-// The offset past an element of the usual shape and a number, or another shape.
-#[derive(Clone, Copy)]
-pub enum Passed {
-    To(usize, usize),
-    Other,
+// The element at `at`, if it has that tag.
+#[inline(always)]
+#[tactic(auto, using(crate::proofs::Shape::end_laws))]
+fn tagged(s: &[u8], at: usize, tag: u8) -> Option<Head>
+    ensures { result ≡ tagged s.now at tag }
+{
+    let head = der::header_at(s, at)?;
+    if head.tag != tag {
+        return None;
+    }
+    Some(head)
 }
 
-// What is noted in a certificate of the usual shape, or another shape.
-#[derive(Clone, Copy)]
-pub enum AtSight {
-    Is(Noted),
-    Other,
+// The same, if it is all that stands from `at` to the end of s.
+#[inline(always)]
+#[tactic(auto, using(crate::proofs::Shape::end_laws))]
+fn alone(s: &[u8], at: usize, tag: u8) -> Option<Head>
+    ensures { result ≡ alone s.now at tag }
+{
+    let head = tagged(s, at, tag)?;
+    if head.end != s.len() {
+        return None;
+    }
+    Some(head)
 }
 
-// Where the element with that tag ends, or 0 where another one stands at `at`, or none.
-fn end_of(s: &[u8], at: usize, tag: u8) -> usize
+// Where the element with that tag ends.
+#[inline(always)]
+#[tactic(auto, using(crate::proofs::Shape::end_laws))]
+fn end_of(s: &[u8], at: usize, tag: u8) -> Option<usize>
     ensures { result ≡ end_of s.now at tag }
 {
-    let h = der::header_at(s, at);
-    match h {
-        Header::NoHeader => 0,
-        Header::Opens(head) => {
-            if head.tag != tag {
-                return 0;
-            }
-            head.end
-        }
-    }
+    let head = tagged(s, at, tag)?;
+    Some(head.end)
 }
 
-// One of two numbers.
-fn either(first: bool, x: usize, y: usize) -> usize
-    ensures { result ≡ cond first x y }
-{
-    if first { x } else { y }
-}
-
-// Where the element with that tag ends, in which anything may stand, or 0.
-fn free_end(s: &[u8], at: usize, tag: u8, levels: usize) -> usize
+// Where the element with that tag ends, in which anything may stand.
+#[tactic(auto, using(crate::proofs::Shape::free_laws))]
+fn free_end(s: &[u8], at: usize, tag: u8, levels: usize) -> Option<usize>
     ensures { FreeSeen levels s.now at tag result }
 {
-    let h = der::header_at(s, at);
-    match h {
-        Header::NoHeader => 0,
-        Header::Opens(head) => {
-            if head.tag != tag {
-                return 0;
-            }
-            let end = head.end;
-            let w = der::walk_contents(s, head, levels);
-            match w {
-                Walk::Past(_) => end,
-                Walk::Fault(_) => 0,
-            }
-        }
-    }
+    let head = tagged(s, at, tag)?;
+    der::walk_contents(s, head, levels).ok()
 }
 
 // Whether the fields of an extension are all that stands from `at` to the end of s.
+#[tactic(auto, using(crate::proofs::Shape::sight_laws))]
 fn is_extension(s: &[u8], at: usize) -> bool
     ensures { result ≡ true → ExtensionEnds s.now at }
 {
-    let i = end_of(s, at, x509::OBJECT_IDENTIFIER);
-    if i == 0 {
+    let Some(i) = end_of(s, at, x509::OBJECT_IDENTIFIER) else {
         return false;
+    };
+    if alone(s, i, x509::OCTET_STRING).is_some() {
+        return true;
     }
-    let j = end_of(s, i, x509::OCTET_STRING);
-    if j != 0 {
-        return j == s.len();
-    }
-    let k = end_of(s, i, x509::BOOLEAN);
-    if k == 0 {
+    let Some(j) = end_of(s, i, x509::BOOLEAN) else {
         return false;
-    }
-    let e = end_of(s, k, x509::OCTET_STRING);
-    if e == 0 {
-        return false;
-    }
-    e == s.len()
+    };
+    alone(s, j, x509::OCTET_STRING).is_some()
 }
 
-// Where an attribute's value begins, if its type and a primitive value are all that stands from `at` to the end of s, or 0.
-fn attribute_value(s: &[u8], at: usize) -> usize
-    ensures { (result ≡ 0 → ⊥) → AttributeEnds s.now at result }
+// Where an attribute's value begins, if its type and a primitive value are all that stands from `at` to the end of s.
+#[tactic(auto, using(crate::proofs::Shape::sight_laws))]
+fn attribute_value(s: &[u8], at: usize) -> Option<usize>
+    ensures { IfSome result (AttributeEnds s.now at) }
 {
-    let i = end_of(s, at, x509::OBJECT_IDENTIFIER);
-    if i == 0 {
-        return 0;
+    let i = end_of(s, at, x509::OBJECT_IDENTIFIER)?;
+    let head = der::header_at(s, i)?;
+    if der::is_constructed(head.tag) || head.end != s.len() {
+        return None;
     }
-    let h = der::header_at(s, i);
-    match h {
-        Header::NoHeader => 0,
-        Header::Opens(head) => {
-            let constructed = der::is_constructed(head.tag);
-            if constructed {
-                return 0;
-            }
-            if head.end != s.len() {
-                return 0;
-            }
-            i
-        }
-    }
+    Some(i)
 }
 
 // The common name so far, if one attribute is all that stands from `at` to the end of s.
-fn attribute_at(s: &[u8], at: usize, name: usize) -> Seen
+#[tactic(auto, using(crate::proofs::Shape::attribute_laws))]
+fn attribute_at(s: &[u8], at: usize, name: usize) -> Option<usize>
     ensures { AttributeSeen s.now at name result }
 {
-    let h = der::header_at(s, at);
-    let Header::Opens(head) = h else {
-        return Seen::Other;
-    };
-    if head.tag != x509::SEQUENCE {
-        return Seen::Other;
+    let head = alone(s, at, x509::SEQUENCE)?;
+    let value = attribute_value(s, head.start)?;
+    if x509::is_common_name(&s[head.start..head.end]) {
+        return Some(value);
     }
-    if head.end != s.len() {
-        return Seen::Other;
-    }
-    let start = head.start;
-    let end = head.end;
-    let value = attribute_value(s, start);
-    if value == 0 {
-        return Seen::Other;
-    }
-    let common = x509::is_common_name(&s[start..end]);
-    let last = either(common, value, name);
-    Seen::Is(last)
+    Some(name)
 }
 
 // Past a set of one attribute, with the common name so far.
-fn set_at(s: &[u8], at: usize, name: usize) -> Passed
-    ensures { SetSeen s.now at name result }
+#[tactic(auto, using(crate::proofs::Shape::set_laws))]
+fn set_at(s: &[u8], from: Seen) -> Option<Seen>
+    ensures { SetSeen s.now from result }
 {
-    let h = der::header_at(s, at);
-    let Header::Opens(head) = h else {
-        return Passed::Other;
-    };
-    if head.tag != x509::SET {
-        return Passed::Other;
-    }
-    let end = head.end;
-    let seen = attribute_at(&s[0..end], head.start, name);
-    match seen {
-        Seen::Other => Passed::Other,
-        Seen::Is(m) => Passed::To(end, m),
-    }
+    let head = tagged(s, from.at, x509::SET)?;
+    let noted = attribute_at(&s[..head.end], head.start, from.noted)?;
+    Some(Seen {
+        at: head.end,
+        noted,
+    })
 }
 
 // The last common name of a subject whose sets stand from `at` to the end of s.
-fn subject(s: &[u8], at: usize) -> Seen
+#[tactic(auto, using(crate::proofs::Shape::subject_laws))]
+fn subject(s: &[u8], at: usize) -> Option<usize>
     ensures { SubjectSeen s.now at result }
 {
-    let mut i = at;
-    let mut name = 0;
-    while i < s.len() {
-        let p = set_at(s, i, name);
-        match p {
-            Passed::Other => return Seen::Other,
-            Passed::To(e, m) => {
-                i = e;
-                name = m;
-            }
-        }
+    // No iterator: each turn goes on from what the last one has seen, and an element of another shape ends all. The loop of `extensions` is
+    // its twin, over another promise: one for both would take the relation of two states as a parameter, and be no shorter.
+    let mut seen = Seen { at, noted: 0 };
+    while seen.at < s.len() {
+        seen = set_at(s, seen)?;
     }
-    Seen::Is(name)
+    Some(seen.noted)
 }
 
 // Whether dNSNames are all that stands from `at` to the end of s.
+#[tactic(auto, using(crate::proofs::Shape::names_laws))]
 fn are_dns_names(s: &[u8], at: usize) -> bool
     ensures { result ≡ true → NamesEnd s.now at }
 {
+    // No iterator: whether the elements reach to the end of s is asked, which a reader's items do not say.
     let mut i = at;
     while i < s.len() {
-        let e = end_of(s, i, x509::DNS_NAME);
-        if e == 0 {
+        let Some(end) = end_of(s, i, x509::DNS_NAME) else {
             return false;
-        }
-        i = e;
+        };
+        i = end;
     }
     true
 }
 
 // Whether GeneralNames of dNSNames are all that stands from `at` to the end of s.
+#[tactic(auto, using(crate::proofs::Shape::alt_name_laws))]
 fn are_alt_names(s: &[u8], at: usize) -> bool
     ensures { result ≡ true → AltNamesEnd s.now at }
 {
-    let h = der::header_at(s, at);
-    let Header::Opens(head) = h else {
-        return false;
-    };
-    if head.tag != x509::SEQUENCE {
-        return false;
+    match alone(s, at, x509::SEQUENCE) {
+        Some(head) => are_dns_names(s, head.start),
+        None => false,
     }
-    if head.end != s.len() {
-        return false;
-    }
-    are_dns_names(s, head.start)
 }
 
-// Where GeneralNames begin in the extension subjectAltName whose fields are all that stands from `at` to the end of s, or 0.
-fn alt_name(s: &[u8], at: usize) -> usize
-    ensures { (result ≡ 0 → ⊥) → AltNameEnds s.now at result }
+// Where GeneralNames begin in the extension subjectAltName whose fields are all that stands from `at` to the end of s.
+#[tactic(auto, using(crate::proofs::Shape::alt_name_laws))]
+fn alt_name(s: &[u8], at: usize) -> Option<usize>
+    ensures { IfSome result (AltNameEnds s.now at) }
 {
-    let i = end_of(s, at, x509::OBJECT_IDENTIFIER);
-    if i == 0 {
-        return 0;
+    let i = end_of(s, at, x509::OBJECT_IDENTIFIER)?;
+    let head = alone(s, i, x509::OCTET_STRING)?;
+    if !are_alt_names(s, head.start) {
+        return None;
     }
-    let h = der::header_at(s, i);
-    let Header::Opens(head) = h else {
-        return 0;
-    };
-    if head.tag != x509::OCTET_STRING {
-        return 0;
-    }
-    if head.end != s.len() {
-        return 0;
-    }
-    let start = head.start;
-    let are = are_alt_names(s, start);
-    if !are {
-        return 0;
-    }
-    start
+    Some(head.start)
 }
 
-// Past an extension, with where GeneralNames begin so far, 0 where none have been seen.
-fn extension_at(s: &[u8], at: usize, alternatives: usize) -> Passed
-    ensures { ExtensionSeen s.now at alternatives result }
+// Past an extension, with where GeneralNames begin so far.
+#[tactic(auto, using(crate::proofs::Shape::extension_laws))]
+fn extension_at(s: &[u8], from: Seen) -> Option<Seen>
+    ensures { ExtensionSeen s.now from result }
 {
-    let h = der::header_at(s, at);
-    let Header::Opens(head) = h else {
-        return Passed::Other;
-    };
-    if head.tag != x509::SEQUENCE {
-        return Passed::Other;
-    }
-    let start = head.start;
-    let end = head.end;
-    let is_alt = x509::is_alt_name(&s[start..end]);
-    if !is_alt {
-        let is = is_extension(&s[0..end], start);
-        if !is {
-            return Passed::Other;
+    let head = tagged(s, from.at, x509::SEQUENCE)?;
+    if !x509::is_alt_name(&s[head.start..head.end]) {
+        if !is_extension(&s[..head.end], head.start) {
+            return None;
         }
-        return Passed::To(end, alternatives);
+        return Some(Seen {
+            at: head.end,
+            noted: from.noted,
+        });
     }
-    if alternatives != 0 {
-        return Passed::Other;
+    if from.noted != 0 {
+        return None;
     }
-    let names = alt_name(&s[0..end], start);
-    if names == 0 {
-        return Passed::Other;
-    }
-    Passed::To(end, names)
+    let noted = alt_name(&s[..head.end], head.start)?;
+    Some(Seen {
+        at: head.end,
+        noted,
+    })
 }
 
-// Where GeneralNames begin, 0 where there are none, if extensions stand from `at` to the end of s.
-fn extensions(s: &[u8], at: usize) -> Seen
+// Where GeneralNames begin, 0 where there are none, if extensions stand from `at` to the end of s. The loop is that of `subject` with another step: a loop that takes the step as a
+// closure would need what a step promises in its contract, and be no plainer.
+#[tactic(auto, using(crate::proofs::Shape::extensions_laws))]
+fn extensions(s: &[u8], at: usize) -> Option<usize>
     ensures { ExtensionsSeen s.now at result }
 {
-    let mut i = at;
-    let mut alternatives = 0;
-    while i < s.len() {
-        let p = extension_at(s, i, alternatives);
-        match p {
-            Passed::Other => return Seen::Other,
-            Passed::To(e, a) => {
-                i = e;
-                alternatives = a;
-            }
-        }
+    // No iterator, as in `subject`.
+    let mut seen = Seen { at, noted: 0 };
+    while seen.at < s.len() {
+        seen = extension_at(s, seen)?;
     }
-    Seen::Is(alternatives)
+    Some(seen.noted)
 }
 
 // The same, if a list of extensions is all that stands from `at` to the end of s.
-fn extension_list(s: &[u8], at: usize) -> Seen
+#[tactic(auto, using(crate::proofs::Shape::tail_laws))]
+fn extension_list(s: &[u8], at: usize) -> Option<usize>
     ensures { ListSeen s.now at result }
 {
-    let h = der::header_at(s, at);
-    let Header::Opens(head) = h else {
-        return Seen::Other;
-    };
-    if head.tag != x509::SEQUENCE {
-        return Seen::Other;
-    }
-    if head.end != s.len() {
-        return Seen::Other;
-    }
+    let head = alone(s, at, x509::SEQUENCE)?;
     extensions(s, head.start)
 }
 
 // The same, if the field extensions, or nothing, is all that stands from `at` to the end of s.
-fn tail(s: &[u8], at: usize) -> Seen
+#[tactic(auto, using(crate::proofs::Shape::tail_laws))]
+fn tail(s: &[u8], at: usize) -> Option<usize>
     ensures { TailSeen s.now at result }
 {
     if at == s.len() {
-        return Seen::Is(0);
+        return Some(0);
     }
-    let h = der::header_at(s, at);
-    let Header::Opens(head) = h else {
-        return Seen::Other;
-    };
-    if head.tag != x509::EXTENSIONS {
-        return Seen::Other;
-    }
-    if head.end != s.len() {
-        return Seen::Other;
-    }
+    let head = alone(s, at, x509::EXTENSIONS)?;
     extension_list(s, head.start)
 }
 
-// Where the version ends, in which an integer alone stands, or 0.
-fn version_end(s: &[u8], at: usize) -> usize
+// Where the version ends, in which an integer alone stands.
+#[tactic(auto, using(crate::proofs::Shape::serial_laws))]
+fn version_end(s: &[u8], at: usize) -> Option<usize>
     ensures { VersionSeen s.now at result }
 {
-    let h = der::header_at(s, at);
-    let Header::Opens(head) = h else {
-        return 0;
-    };
-    if head.tag != x509::VERSION {
-        return 0;
-    }
-    let end = head.end;
-    let e = end_of(&s[0..end], head.start, x509::INTEGER);
-    if e != end {
-        return 0;
-    }
-    end
+    let head = tagged(s, at, x509::VERSION)?;
+    alone(&s[..head.end], head.start, x509::INTEGER)?;
+    Some(head.end)
 }
 
-// Where the serial number ends, after a version or none, or 0.
-fn serial_end(s: &[u8], at: usize) -> usize
+// Where the serial number ends, after a version or none.
+#[tactic(auto, using(crate::proofs::Shape::serial_laws))]
+fn serial_end(s: &[u8], at: usize) -> Option<usize>
     ensures { SerialSeen s.now at result }
 {
-    let v = version_end(s, at);
-    if v != 0 {
-        return end_of(s, v, x509::INTEGER);
+    match version_end(s, at) {
+        Some(i) => end_of(s, i, x509::INTEGER),
+        None => end_of(s, at, x509::INTEGER),
     }
-    end_of(s, at, x509::INTEGER)
 }
 
-// Where the signature's algorithm, the issuer and the validity end, or 0.
-fn middle_end(s: &[u8], at: usize) -> usize
+// Where the signature's algorithm, the issuer and the validity end.
+#[tactic(auto, using(crate::proofs::Shape::middle_laws))]
+fn middle_end(s: &[u8], at: usize) -> Option<usize>
     ensures { MiddleSeen s.now at result }
 {
-    let i = free_end(s, at, x509::SEQUENCE, 13);
-    if i == 0 {
-        return 0;
-    }
-    let j = free_end(s, i, x509::SEQUENCE, 13);
-    if j == 0 {
-        return 0;
-    }
+    let i = free_end(s, at, x509::SEQUENCE, 13)?;
+    let j = free_end(s, i, x509::SEQUENCE, 13)?;
     free_end(s, j, x509::SEQUENCE, 13)
 }
 
 // What is noted in the subject and what follows it, from `at` to the end of s.
-fn subject_on(s: &[u8], at: usize) -> AtSight
+#[tactic(auto, using(crate::proofs::Shape::on_laws))]
+fn subject_on(s: &[u8], at: usize) -> Option<Noted>
     ensures { SubjectOnSeen s.now at result }
 {
-    let h = der::header_at(s, at);
-    let Header::Opens(head) = h else {
-        return AtSight::Other;
-    };
-    if head.tag != x509::SEQUENCE {
-        return AtSight::Other;
-    }
-    let key = head.end;
-    let names = subject(&s[0..key], head.start);
-    let Seen::Is(name) = names else {
-        return AtSight::Other;
-    };
-    let i = free_end(s, key, x509::SEQUENCE, 13);
-    if i == 0 {
-        return AtSight::Other;
-    }
-    let rest = tail(s, i);
-    match rest {
-        Seen::Other => AtSight::Other,
-        Seen::Is(alternatives) => AtSight::Is(Noted {
-            key,
-            name,
-            alternatives,
-        }),
-    }
+    let head = tagged(s, at, x509::SEQUENCE)?;
+    let name = subject(&s[..head.end], head.start)?;
+    let i = free_end(s, head.end, x509::SEQUENCE, 13)?;
+    let alternatives = tail(s, i)?;
+    Some(Noted {
+        key: head.end,
+        name,
+        alternatives,
+    })
 }
 
 // What is noted in the fields of TBSCertificate, from `at` to the end of s.
-fn tbs_certificate(s: &[u8], at: usize) -> AtSight
+#[tactic(auto, using(crate::proofs::Shape::shape_laws))]
+fn tbs_certificate(s: &[u8], at: usize) -> Option<Noted>
     ensures { TbsSeen s.now at result }
 {
-    let i = serial_end(s, at);
-    if i == 0 {
-        return AtSight::Other;
-    }
-    let j = middle_end(s, i);
-    if j == 0 {
-        return AtSight::Other;
-    }
+    let i = serial_end(s, at)?;
+    let j = middle_end(s, i)?;
     subject_on(s, j)
 }
 
 // What is noted in the fields of Certificate, from `at` to the end of s.
-fn certificate_fields(s: &[u8], at: usize) -> AtSight
+#[tactic(auto, using(crate::proofs::Shape::shape_laws))]
+fn certificate_fields(s: &[u8], at: usize) -> Option<Noted>
     ensures { FieldsSeen s.now at result }
 {
-    let h = der::header_at(s, at);
-    let Header::Opens(head) = h else {
-        return AtSight::Other;
-    };
-    if head.tag != x509::SEQUENCE {
-        return AtSight::Other;
-    }
-    let end = head.end;
-    let i = free_end(s, end, x509::SEQUENCE, 14);
-    if i == 0 {
-        return AtSight::Other;
-    }
-    let j = end_of(s, i, x509::BIT_STRING);
-    if j != s.len() {
-        return AtSight::Other;
-    }
-    tbs_certificate(&s[0..end], head.start)
+    let head = tagged(s, at, x509::SEQUENCE)?;
+    let i = free_end(s, head.end, x509::SEQUENCE, 14)?;
+    alone(s, i, x509::BIT_STRING)?;
+    tbs_certificate(&s[..head.end], head.start)
 }
 
 // What is noted in the certificate that the whole of s is, if it has the usual shape.
-fn certificate(s: &[u8]) -> AtSight
+#[tactic(auto, using(crate::proofs::Shape::shape_laws))]
+fn certificate(s: &[u8]) -> Option<Noted>
     ensures { CertificateSeen s.now result }
 {
-    let h = der::header_at(s, 0);
-    let Header::Opens(head) = h else {
-        return AtSight::Other;
-    };
-    if head.tag != x509::SEQUENCE {
-        return AtSight::Other;
-    }
-    if head.end != s.len() {
-        return AtSight::Other;
-    }
+    let head = alone(s, 0, x509::SEQUENCE)?;
     certificate_fields(s, head.start)
 }
 
 // The fields of the certificate that the whole of s is to be: at sight where it has the usual shape, else by the walk.
-pub fn fields_of(s: &[u8]) -> Fields
+#[inline(always)]
+#[tactic(auto, using(crate::proofs::Shape::at_sight_laws))]
+pub fn fields_of(s: &[u8]) -> Result<Found, Fault>
     ensures { result ≡ fields_of s.now }
 {
-    let seen = certificate(s);
-    match seen {
-        AtSight::Is(n) => {
-            let found = x509::found_at(s, n);
-            Fields::Are(found)
-        }
-        AtSight::Other => x509::fields_of(s),
+    match certificate(s) {
+        Some(noted) => Ok(x509::found_at(s, noted)),
+        None => x509::fields_of(s),
     }
 }

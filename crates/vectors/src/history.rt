@@ -8,308 +8,257 @@
 //
 // After a store the whole cache is compared: the entry at PLACE is the one that the arguments make, its text stands in its room, and
 // all else is as before. The lines after it go on from the cache that the case asks for, so that one fault is not reported twice.
-ghost use Rattle.std.specs.Prelude.{◌≤◌};
+ghost use Rattle.std.specs.Prelude.{◌≡◌, ◌++◌, ◌≤◌, length, take, drop, vec_len};
+ghost use Rattle.cache.specs.Store.{store_answer, table_after, texts_after};
+ghost use Rattle.cache.specs.Lookup.{lookup_answer};
 
-use crate::calls::{Outcome, answer_of, compared, differs, expected_at};
-use crate::facts::Found;
-use crate::line::{Fields, bytes_at, has_kinds_at, number_at, part};
-use crate::{calls, facts};
+use crate::calls;
+use crate::failure::Failure::{Differs, Unreadable};
+use crate::failure::{Failure, Outcome};
+use crate::line::Line;
 use cache::{CacheAnswer, CacheEntry};
-use lending::Stored;
-use std::num::wrapping_add_u64;
+use std::alloc::{AllocError, Global};
+use writing::WriteAnswer;
 
 // The most entries of a table and the most bytes of texts that a case can lend: one more than a cache has.
 const TABLE_ROOM: usize = 65;
 
-pub(crate) const TEXTS_ROOM: usize = 65537;
+const TEXTS_ROOM: usize = 65537;
 
 // What an entry's text has of the texts.
 const TEXT_ROOM: usize = 1024;
 
-// A cache but for its texts, which are held apart: how many entries and how many bytes of texts it has, and the entries.
-#[derive(Clone, Copy)]
-pub struct Cache {
-    pub entries: usize,
-    pub texts: usize,
-    pub table: [CacheEntry; TABLE_ROOM],
-}
-
-// What a line came to, and the cache after it.
+// A table and texts, and how many of their entries and bytes a call is lent.
 #[derive(Drop)]
-pub struct After {
-    pub outcome: Outcome,
-    pub cache: Cache,
+pub struct Cache {
+    entries: usize,
+    size: usize,
+    table: Vec<CacheEntry>,
+    texts: Vec<u8>,
+    ghost table_room: { vec_len table ≡ 65 },
+    ghost texts_room: { vec_len texts ≡ 65537 },
+    ghost entries_fit: { entries ≤ 65 },
+    ghost size_fits: { size ≤ 65537 },
 }
 
-pub(crate) fn empty(entries: usize, texts: usize) -> Cache {
-    let e = cache::no_entry();
-    Cache {
-        entries: entries,
-        texts: texts,
-        table: [e; TABLE_ROOM],
+impl Cache {
+    pub(crate) fn new(alloc: Global, entries: usize, size: usize) -> Result<Cache, AllocError>
+        requires { (entries ≤ 65) × (size ≤ 65537) }
+    {
+        Ok(Cache {
+            entries,
+            size,
+            table: vec![in alloc; cache::no_entry(); TABLE_ROOM]?,
+            texts: vec![in alloc; 0u8; TEXTS_ROOM]?,
+        })
     }
-}
 
-// Runs a line on the cache and the texts that the lines before it left. `d` are the fields of the default that holds for the line.
-pub(crate) fn run(c: Cache, s: &[u8], f: Fields, d: Fields, texts: &mut [u8]) -> After {
-    let found = facts::item_of(
-        b"cache_new;cache_entries;cache_store;cache_lookup",
-        b';',
-        bytes_at(s, f, 0),
-    );
-    let Found::At(call) = found else {
-        return came_to(calls::run(s, f, d), c);
-    };
-    let place = call.place;
-    match place {
-        0 => begin(c, f, texts),
-        1 => entries(c, s, f, texts),
-        2 => store(c, s, f, texts),
-        _ => came_to(lookup(c, s, f, texts), c),
-    }
-}
-
-fn came_to(outcome: Outcome, c: Cache) -> After {
-    After {
-        outcome: outcome,
-        cache: c,
-    }
-}
-
-// An empty cache; the bytes of texts beyond its own are zeros too.
-fn begin(c: Cache, f: Fields, texts: &mut [u8]) -> After {
-    if !is_new(f) {
-        return came_to(Outcome::Unreadable, c);
-    }
-    let zeros = [0u8; TEXTS_ROOM];
-    put(texts, 0, &zeros);
-    came_to(
-        Outcome::SetUp,
-        empty(number_at(f, 1) as usize, number_at(f, 2) as usize),
-    )
-}
-
-// Whether a line can be read as one of `cache_new`, and there is room for such a cache.
-fn is_new(f: Fields) -> bool {
-    has_kinds_at(f, 0, f.count, b"wnn")
-        && number_at(f, 1) <= TABLE_ROOM as u64
-        && number_at(f, 2) <= TEXTS_ROOM as u64
-}
-
-fn entries(c: Cache, s: &[u8], f: Fields, texts: &mut [u8]) -> After {
-    if !are_entries(s, f) {
-        return came_to(Outcome::Unreadable, c);
-    }
-    let e = entry_of(s, f, number_at(f, 5), number_at(f, 6));
-    let first = number_at(f, 1) as usize;
-    let last = number_at(f, 2) as usize;
-    came_to(
-        Outcome::SetUp,
-        filled(c, first, last, e, bytes_at(s, f, 7), texts),
-    )
-}
-
-// Whether a line can be read as one of `cache_entries`, and there is room for all that it gives.
-fn are_entries(s: &[u8], f: Fields) -> bool {
-    let domain = bytes_at(s, f, 3);
-    let id = bytes_at(s, f, 4);
-    let text = bytes_at(s, f, 7);
-    has_kinds_at(f, 0, f.count, b"wnnbbnnb")
-        && number_at(f, 2) < TABLE_ROOM as u64
-        && domain.len() <= 253
-        && id.len() <= 32
-        && text.len() <= TEXT_ROOM
-}
-
-// The cache with the entry at each place from the first to the last.
-fn filled(
-    before: Cache,
-    first: usize,
-    last: usize,
-    e: CacheEntry,
-    text: &[u8],
-    texts: &mut [u8],
-) -> Cache {
-    let mut c = before;
-    let mut k = first;
-    while k < TABLE_ROOM {
-        if k > last {
-            return c;
+    // Runs a line on the cache that the lines before it left.
+    pub(crate) fn run(
+        &mut self,
+        alloc: Global,
+        line: &Line,
+        default: Option<&Line>,
+    ) -> Result<Outcome, Failure> {
+        match line.bytes_at(0) {
+            b"cache_new" => self.begin(alloc, line),
+            b"cache_entries" => self.fill(line),
+            b"cache_store" => self.store(alloc, line),
+            b"cache_lookup" => self.lookup(alloc, line),
+            _ => calls::run(alloc, line, default),
         }
-        c = with_entry(c, k, numbered(e, k), text, texts);
-        k += 1;
     }
-    c
+
+    fn begin(&mut self, alloc: Global, line: &Line) -> Result<Outcome, Failure> {
+        let mut fields = line.arguments()?;
+        let entries = fields.number()? as usize;
+        let size = fields.number()? as usize;
+        fields.end()?;
+        if entries > TABLE_ROOM || size > TEXTS_ROOM {
+            return Err(Unreadable);
+        }
+        *self = Cache::new(alloc, entries, size)?;
+        Ok(Outcome::SetUp)
+    }
+
+    fn fill(&mut self, line: &Line) -> Result<Outcome, Failure> {
+        let mut fields = line.arguments()?;
+        let first = fields.number()? as usize;
+        let last = fields.number()? as usize;
+        let domain = fields.bytes()?;
+        let id = fields.bytes()?;
+        let fetched = fields.number()?;
+        let length = fields.number()?;
+        let text = fields.bytes()?;
+        fields.end()?;
+        if last >= TABLE_ROOM || domain.len() > 253 || id.len() > 32 || text.len() > TEXT_ROOM {
+            return Err(Unreadable);
+        }
+        let entry = entry_of(domain, id, fetched, length);
+        for place in first..=last {
+            self.put(place, numbered(entry, place), text);
+        }
+        Ok(Outcome::SetUp)
+    }
+
+    // The store is made on a copy; the cache itself becomes what the case asks for, even where the rest of the line can't be read.
+    fn store(&mut self, alloc: Global, line: &Line) -> Result<Outcome, Failure> {
+        let before = Cache {
+            entries: self.entries,
+            size: self.size,
+            table: self.table.clone()?,
+            texts: self.texts.clone()?,
+        };
+        if line.fields.len() > 9 {
+            let text = line.bytes_at(5);
+            let entry = entry_of(
+                line.bytes_at(3),
+                line.bytes_at(4),
+                line.number_at(2),
+                text.len() as u64,
+            );
+            self.put(line.number_at(9) as usize, entry, text);
+        }
+        self.compare_store(alloc, line, before)
+    }
+
+    // Makes the store of a line, and compares the cache that it leaves with this one, then the answer.
+    fn compare_store(&self, alloc: Global, line: &Line, got: Cache) -> Result<Outcome, Failure> {
+        let mut fields = line.case()?;
+        let clock = fields.number()?;
+        let domain = fields.bytes()?;
+        let id = fields.bytes()?;
+        let policy = fields.bytes()?;
+        let expected = fields.answer()?;
+        if line.fields.len() > 9 {
+            fields.number()?;
+        }
+        fields.end()?;
+        let Cache {
+            entries,
+            size,
+            mut table,
+            mut texts,
+        } = got;
+        let r = store_first(
+            clock, domain, id, policy, entries, &mut table, size, &mut texts,
+        );
+        if table != self.table {
+            return Err(Differs("table differs"));
+        }
+        if texts != self.texts {
+            return Err(Differs("texts differ"));
+        }
+        calls::compared(alloc, expected, [r.number, r.length])
+    }
+
+    fn lookup(&self, alloc: Global, line: &Line) -> Result<Outcome, Failure> {
+        let mut fields = line.case()?;
+        let clock = fields.number()?;
+        let domain = fields.bytes()?;
+        let expected = fields.answer()?;
+        let id = fields.bytes()?;
+        let text = fields.bytes()?;
+        fields.end()?;
+        let texts = &self.texts[..self.size];
+        let r = look_up_first(clock, domain, self.entries, &self.table, texts);
+        if r.id_length != id.len() as u64 || r.id != filled_up(id) {
+            return Err(Differs("id differs"));
+        }
+        if r.text_length != text.len() as u64
+            || part(texts, r.text_start as usize, text.len()) != text
+        {
+            return Err(Differs("text differs"));
+        }
+        calls::compared(
+            alloc,
+            expected,
+            [r.number, r.length, r.text_start, r.fetched],
+        )
+    }
+
+    // Puts an entry at a place and a text in its room; does nothing where there is no such place.
+    fn put(&mut self, place: usize, entry: CacheEntry, text: &[u8]) {
+        if place < TABLE_ROOM {
+            self.table[place] = entry;
+            put(&mut self.texts, TEXT_ROOM * place, text);
+        }
+    }
+}
+
+// A store by the library's call, which is lent the first entries of a table and the first bytes of texts, as many as asked for and there are.
+#[tactic(auto, using(std::proofs::lemmas::List::take_min, std::proofs::lemmas::List::drop_min))]
+fn store_first(
+    clock: u64,
+    domain: &[u8],
+    id: &[u8],
+    policy: &[u8],
+    entries: usize,
+    table: &mut [CacheEntry],
+    size: usize,
+    texts: &mut [u8],
+) -> WriteAnswer
+    ensures answer { result ≡ store_answer clock domain.now id.now policy.now (take entries table.old) (take size texts.old) }
+    ensures table { table.new ≡ table_after clock domain.now id.now policy.now (take entries table.old) (take size texts.old) ++ drop entries table.old }
+    ensures texts { texts.new ≡ texts_after clock domain.now id.now policy.now (take entries table.old) (take size texts.old) ++ drop size texts.old }
+{
+    let entries = entries.min(table.len());
+    let size = size.min(texts.len());
+    let table = &mut table[..entries];
+    let texts = &mut texts[..size];
+    tweedstork::tweedstork_cache_store(clock, domain, id, policy, table, texts)
+}
+
+// A lookup by the library's call, which is lent the first entries of a table, as many as asked for and there are.
+#[tactic(auto, using(std::proofs::lemmas::List::take_min))]
+fn look_up_first(
+    clock: u64,
+    domain: &[u8],
+    entries: usize,
+    table: &[CacheEntry],
+    texts: &[u8],
+) -> CacheAnswer
+    ensures { result ≡ lookup_answer clock domain.now (take entries table.now) texts.now }
+{
+    let entries = entries.min(table.len());
+    tweedstork::tweedstork_cache_lookup(clock, domain, &table[..entries], texts)
+}
+
+// Puts bytes at a place, where there is room for them.
+fn put(out: &mut [u8], at: usize, s: &[u8]) {
+    if let Some(room) = out.get_mut(at..).and_then(|rest| rest.get_mut(..s.len())) {
+        room.copy_from_slice(s);
+    }
+}
+
+// So many bytes at a place, or none where they don't all lie inside.
+fn part(s: &[u8], start: usize, size: usize) -> &[u8] {
+    s.get(start..)
+        .and_then(|rest| rest.get(..size))
+        .unwrap_or(&[])
+}
+
+// Bytes with zeros after them; zeros alone where they are too many.
+fn filled_up<const N: usize>(s: &[u8]) -> [u8; N] {
+    let mut out = [0; N];
+    put(&mut out, 0, s);
+    out
+}
+
+fn entry_of(domain: &[u8], id: &[u8], fetched: u64, length: u64) -> CacheEntry {
+    CacheEntry {
+        domain: filled_up(domain),
+        id: filled_up(id),
+        fetched,
+        length,
+    }
 }
 
 // The entry with the two digits of a place for NN in its domain.
-fn numbered(mut e: CacheEntry, k: usize) -> CacheEntry {
-    if e.domain[1] == b'N' && e.domain[2] == b'N' {
-        e.domain[1] = b'0' + (k / 10 % 10) as u8;
-        e.domain[2] = b'0' + (k % 10) as u8;
+fn numbered(mut entry: CacheEntry, place: usize) -> CacheEntry {
+    if let [_, b'N', b'N', ..] = entry.domain {
+        entry.domain[1] = b'0' + (place / 10 % 10) as u8;
+        entry.domain[2] = b'0' + (place % 10) as u8;
     }
-    e
-}
-
-// The store is made on a copy of the texts; the texts themselves become what the case asks for.
-fn store(c: Cache, s: &[u8], f: Fields, texts: &mut [u8]) -> After {
-    let mut copy = [0u8; TEXTS_ROOM];
-    put(&mut copy, 0, texts);
-    store_in(c, s, f, &mut copy, texts)
-}
-
-fn store_in(c: Cache, s: &[u8], f: Fields, copy: &mut [u8], texts: &mut [u8]) -> After {
-    let n = at_most(c.texts, copy.len());
-    let table = c.table;
-    let r = lending::store_in(
-        number_at(f, 2),
-        bytes_at(s, f, 3),
-        bytes_at(s, f, 4),
-        bytes_at(s, f, 5),
-        at_most(c.entries, TABLE_ROOM),
-        table,
-        &mut copy[0..n],
-    );
-    let expected = with_store(c, s, f, texts);
-    came_to(compared_store(s, f, r, expected, copy, texts), expected)
-}
-
-// The cache after a store by what its line says.
-fn with_store(c: Cache, s: &[u8], f: Fields, texts: &mut [u8]) -> Cache {
-    if f.count < 10 {
-        return c;
-    }
-    let text = bytes_at(s, f, 5);
-    let e = entry_of(s, f, number_at(f, 2), text.len() as u64);
-    with_entry(c, number_at(f, 9) as usize, e, text, texts)
-}
-
-// Compares the table and the texts after a store with what they must be, then the answer.
-fn compared_store(
-    s: &[u8],
-    f: Fields,
-    r: Stored,
-    expected: Cache,
-    got_texts: &[u8],
-    texts: &[u8],
-) -> Outcome {
-    if !has_kinds_at(f, 0, f.count, b"wwnbbb=nn") && !has_kinds_at(f, 0, f.count, b"wwnbbb=nnn") {
-        return Outcome::Unreadable;
-    }
-    let got = r.table;
-    let table = expected.table;
-    if !same_tables(got, table) {
-        return differs("table differs");
-    }
-    if got_texts != texts {
-        return differs("texts differ");
-    }
-    compared(
-        answer_of(2, number_at(f, 7), number_at(f, 8), 0, 0),
-        answer_of(2, r.number, r.length, 0, 0),
-    )
-}
-
-fn lookup(c: Cache, s: &[u8], f: Fields, texts: &[u8]) -> Outcome {
-    if !has_kinds_at(f, 0, f.count, b"wwnb=nnnnbb") {
-        return Outcome::Unreadable;
-    }
-    let table = c.table;
-    let lent = part(texts, 0, c.texts);
-    let r = lending::lookup_in(
-        number_at(f, 2),
-        bytes_at(s, f, 3),
-        at_most(c.entries, TABLE_ROOM),
-        table,
-        lent,
-    );
-    compared_lookup(s, f, r, lent)
-}
-
-fn compared_lookup(s: &[u8], f: Fields, r: CacheAnswer, texts: &[u8]) -> Outcome {
-    if !has_id(&r, bytes_at(s, f, 9)) {
-        return differs("id differs");
-    }
-    if !has_text(&r, texts, bytes_at(s, f, 10)) {
-        return differs("text differs");
-    }
-    compared(
-        expected_at(f, 5, 4),
-        answer_of(4, r.number, r.length, r.text_start, r.fetched),
-    )
-}
-
-// Whether an answer has this id, with zeros after it.
-fn has_id(r: &CacheAnswer, id: &[u8]) -> bool {
-    let mut filled_up = [0u8; 32];
-    put(&mut filled_up, 0, id);
-    let got = r.id;
-    r.id_length == id.len() as u64 && got == filled_up
-}
-
-// Whether this text stands at the place that an answer names.
-fn has_text(r: &CacheAnswer, texts: &[u8], text: &[u8]) -> bool {
-    let end = wrapping_add_u64(r.text_start, r.text_length);
-    r.text_length == text.len() as u64 && part(texts, r.text_start as usize, end as usize) == text
-}
-
-// The entry of a line whose fields 3 and 4 are domain and id.
-fn entry_of(s: &[u8], f: Fields, fetched: u64, length: u64) -> CacheEntry {
-    let mut d = [0u8; 253];
-    put(&mut d, 0, bytes_at(s, f, 3));
-    let mut i = [0u8; 32];
-    put(&mut i, 0, bytes_at(s, f, 4));
-    CacheEntry {
-        domain: d,
-        id: i,
-        fetched: fetched,
-        length: length,
-    }
-}
-
-// The cache with an entry at a place and a text in its room; as it was where there is no such place.
-fn with_entry(mut c: Cache, place: usize, e: CacheEntry, text: &[u8], texts: &mut [u8]) -> Cache {
-    if place < TABLE_ROOM {
-        c.table[place] = e;
-        put(texts, TEXT_ROOM * place, text);
-    }
-    c
-}
-
-// The number, or the most that it may be; `begin` sees to it that it is no more.
-fn at_most(n: usize, most: usize) -> usize
-    ensures { result ≤ most }
-{
-    if n <= most {
-        return n;
-    }
-    most
-}
-
-// Writes bytes at a place, where there is room for them.
-fn put(out: &mut [u8], at: usize, s: &[u8]) {
-    if at <= out.len() {
-        if s.len() <= out.len() - at {
-            out[at..at + s.len()].copy_from_slice(s);
-        }
-    }
-}
-
-fn same_tables(a: [CacheEntry; TABLE_ROOM], b: [CacheEntry; TABLE_ROOM]) -> bool {
-    let mut k = 0;
-    while k < TABLE_ROOM {
-        if !same_entry(a[k], b[k]) {
-            return false;
-        }
-        k += 1;
-    }
-    true
-}
-
-fn same_entry(a: CacheEntry, b: CacheEntry) -> bool {
-    let d = a.domain;
-    let e = b.domain;
-    let i = a.id;
-    let j = b.id;
-    d == e && i == j && a.fetched == b.fetched && a.length == b.length
+    entry
 }

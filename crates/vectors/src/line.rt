@@ -5,57 +5,60 @@
 // item says how often it stands there, as `"a"*253`. The escapes of a text are `\n`, `\r`, `\t`, `\\`, `\"` and `\xHH`. A lone `-`
 // is no bytes.
 // A name and `=`, as in `clock=1000`, are a field too; the field after it, its value, follows without a space.
+ghost use Rattle.std.specs.Prelude.{◌≤◌};
 
-pub(crate) const MOST_FIELDS: usize = 96;
+use crate::failure::Failure;
+use crate::failure::Failure::{OutOfMemory, Unreadable};
+use std::alloc::{AllocError, Global};
+use std::mem;
 
-// The kinds of field: a word, a word that is a number below 2^64, bytes, a name before its value, and `=>`.
-pub(crate) const WORD: u8 = b'w';
+const MOST_FIELDS: usize = 96;
 
-const NUMBER: u8 = b'n';
+#[derive(Clone, Copy, PartialEq, Eq)]
+pub enum Kind {
+    Word,
+    // a word that is a number below 2^64
+    Number(u64),
+    Bytes,
+    // a name before its value
+    Name,
+    // `=>`
+    Arrow,
+}
 
-const BYTES: u8 = b'b';
-
-pub(crate) const NAME: u8 = b':';
-
-const ARROW: u8 = b'=';
-
-// Where a field's bytes stand among the line's decoded bytes, and its value if it is a number.
-#[derive(Clone, Copy)]
+// A field: its kind, and its bytes, decoded.
+#[derive(Drop)]
 pub struct Field {
-    pub start: usize,
-    pub end: usize,
-    pub value: u64,
+    pub kind: Kind,
+    pub bytes: Vec<u8>,
 }
 
-// The fields of a line, and where the last of them ends; of a broken line those before the place where it breaks.
-#[derive(Clone, Copy)]
-pub struct Fields {
-    pub is_broken: bool,
-    pub count: usize,
-    pub end: usize,
-    pub kinds: [u8; MOST_FIELDS],
-    pub list: [Field; MOST_FIELDS],
+// The fields of a line, or of one that can't be read those before the place where it breaks, and how many bytes more there was room for.
+// A broken line's fields count too: they say which call it names, and whether it is a default.
+#[derive(Drop)]
+pub struct Line {
+    pub is_whole: bool,
+    pub fields: Vec<Field>,
+    pub room: usize,
 }
 
-// The number that some digits make, unless one of them is no digit or the number would reach 2^64.
+// The fields of a line from some field on, which are read in turn. A field of another kind than is asked for makes the line one that can't be read.
 #[derive(Clone, Copy)]
-pub enum Decimal {
-    Is(u64),
-    Broken,
+pub struct Fields<'a> {
+    rest: &'a [Field],
 }
 
 // What the next byte of a line belongs to.
 #[derive(Clone, Copy)]
-pub enum Mode {
+enum Mode {
     // the spaces before a field
     Between,
-    // the same, right after a field: its kind and its value
-    Ended(u8, u64),
     // `>` after `=`
     Sign,
     // a space after `-` or `=>`: the field's kind
-    Space(u8),
-    Word(Decimal),
+    Space(Kind),
+    // a word, and the number that it is so far, if it is one
+    Word(Option<u64>),
     // a value, right after its name and `=`
     Value,
     Text,
@@ -66,452 +69,351 @@ pub enum Mode {
     Hex,
     HexDigit(u8),
     List,
-    ListNumber(Decimal),
+    ListNumber(u64),
     // what follows an item
     Item,
     Star,
-    Times(Decimal),
-    // a line that can't be read
-    Broken,
+    Times(u64),
 }
 
-// What a byte of the line does, before the line goes on in a mode.
+// How far a line has been read.
 #[derive(Drop)]
-pub enum Action {
-    Nothing(Mode),
-    // an item begins
-    Begin(Mode),
-    // a byte is decoded
-    Put(u8, Mode),
-    // a number of a list is decoded
-    PutNumber(u64, Mode),
-    // the last item stands there so many times
-    Repeat(u64, Mode),
-    // the line can't be read
-    Stop,
+struct Reader {
+    alloc: Global,
+    line: Line,
+    mode: Mode,
+    // the bytes of the field under way: those before its last item, and those of this item
+    bytes: Vec<u8>,
+    item: Vec<u8>,
+    // how many bytes more there is room for
+    room: usize,
 }
 
-// How far decoding has come: where the last item starts, and where the next byte goes.
-#[derive(Clone, Copy)]
-pub struct Place {
-    pub mode: Mode,
-    pub item: usize,
-    pub at: usize,
-}
-
-// Where written bytes end, unless there is no room for them.
-#[derive(Drop)]
-pub enum End {
-    At(usize),
-    Nowhere,
-}
-
-// The fields of a line, decoded into `out` from a place on.
-pub(crate) fn read(line: &[u8], out: &mut [u8], from: usize) -> Fields {
-    let mut f = none(from);
-    let mut p = Place {
-        mode: Mode::Between,
-        item: from,
-        at: from,
-    };
-    let mut i = 0;
-    while i < line.len() {
-        p = step(p, out, line[i]);
-        f = with_ended(f, p);
-        i += 1;
+impl Line {
+    // The fields of a line, where there is room for so many decoded bytes.
+    pub(crate) fn read(alloc: Global, text: &[u8], room: usize) -> Result<Line, AllocError> {
+        let mut r = Reader::new(alloc, room);
+        match r.read(text) {
+            Ok(()) => r.line.is_whole = true,
+            Err(OutOfMemory(e)) => return Err(e),
+            Err(_) => {}
+        }
+        Ok(r.into_line())
     }
-    // the line's end ends a field as a space does
-    p = step(p, out, b' ');
-    f = with_ended(f, p);
-    finished(f, p)
-}
 
-// Whether a line is whole and its fields from a up to e are of these kinds, a letter each.
-pub(crate) fn has_kinds_at(f: Fields, a: usize, e: usize, kinds: &[u8]) -> bool {
-    let found = f.kinds;
-    !f.is_broken && part(&found, a, e) == kinds
-}
-
-// The kind of field k, or 0 where there is no such field.
-pub(crate) fn kind_at(f: Fields, k: usize) -> u8 {
-    if k >= f.count {
-        return 0;
-    }
-    if k >= MOST_FIELDS {
-        return 0;
-    }
-    f.kinds[k]
-}
-
-// The value of field k, or 0 where it is no number.
-pub(crate) fn number_at(f: Fields, k: usize) -> u64 {
-    if k >= MOST_FIELDS {
-        return 0;
-    }
-    let x = f.list[k];
-    x.value
-}
-
-// The bytes of field k, or none where there is no such field.
-pub(crate) fn bytes_at(s: &[u8], f: Fields, k: usize) -> &[u8] {
-    if k >= MOST_FIELDS {
-        return part(s, 0, 0);
-    }
-    let x = f.list[k];
-    part(s, x.start, x.end)
-}
-
-// The name of a line's case: its second field, or the first where that is no word.
-pub(crate) fn name(s: &[u8], f: Fields) -> &[u8] {
-    if kind_at(f, 1) != WORD {
-        return bytes_at(s, f, 0);
-    }
-    bytes_at(s, f, 1)
-}
-
-// s[a..e], or no bytes where that does not lie inside.
-pub(crate) fn part(s: &[u8], a: usize, e: usize) -> &[u8] {
-    if a <= e {
-        if e <= s.len() {
-            return &s[a..e];
+    // The name of a line's case: its second field, or the first where that is no word.
+    pub(crate) fn name(&self) -> &[u8] {
+        match self.fields.get(1) {
+            Some(f) if f.kind == Kind::Word => f.bytes.as_slice(),
+            _ => self.bytes_at(0),
         }
     }
-    &s[0..0]
-}
 
-// The fields of an empty line, decoded from a place on.
-pub(crate) fn none(from: usize) -> Fields {
-    let x = Field {
-        start: 0,
-        end: 0,
-        value: 0,
-    };
-    Fields {
-        is_broken: false,
-        count: 0,
-        end: from,
-        kinds: [WORD; MOST_FIELDS],
-        list: [x; MOST_FIELDS],
+    // The bytes of field k, or none where there is no such field.
+    pub(crate) fn bytes_at(&self, k: usize) -> &[u8] {
+        match self.fields.get(k) {
+            Some(f) => f.bytes.as_slice(),
+            None => &[],
+        }
+    }
+
+    // The value of field k, or 0 where it is no number.
+    pub(crate) fn number_at(&self, k: usize) -> u64 {
+        match self.fields.get(k).map(|f| f.kind) {
+            Some(Kind::Number(n)) => n,
+            _ => 0,
+        }
+    }
+
+    // The fields of a whole line, after the word that names its call.
+    pub(crate) fn arguments(&self) -> Result<Fields<'_>, Failure> {
+        if !self.is_whole {
+            return Err(Unreadable);
+        }
+        let mut fields = Fields { rest: &self.fields };
+        fields.word()?;
+        Ok(fields)
+    }
+
+    // The same, after the word that names the case too.
+    pub(crate) fn case(&self) -> Result<Fields<'_>, Failure> {
+        let mut fields = self.arguments()?;
+        fields.word()?;
+        Ok(fields)
     }
 }
 
-// The fields with the one that has just ended, if one has.
-fn with_ended(f: Fields, p: Place) -> Fields {
-    let mode = p.mode;
-    match mode {
-        Mode::Ended(kind, value) => with_field(f, kind, p.at, value),
-        Mode::Value => with_field(f, NAME, p.at, 0),
-        _ => f,
+impl<'a> Fields<'a> {
+    fn next(&mut self) -> Result<&'a Field, Failure> {
+        let (first, rest) = self.rest.split_first().ok_or(Unreadable)?;
+        self.rest = rest;
+        Ok(first)
     }
-}
 
-fn with_field(mut f: Fields, kind: u8, end: usize, value: u64) -> Fields {
-    let k = f.count;
-    if k >= MOST_FIELDS {
-        f.is_broken = true;
-        return f;
+    fn bytes_of(&mut self, kind: Kind) -> Result<&'a [u8], Failure> {
+        let f = self.next()?;
+        if f.kind == kind {
+            Ok(&f.bytes)
+        } else {
+            Err(Unreadable)
+        }
     }
-    f.kinds[k] = kind;
-    f.list[k] = Field {
-        start: f.end,
-        end: end,
-        value: value,
-    };
-    f.end = end;
-    f.count = k + 1;
-    f
-}
 
-// The fields of the whole line. A line that ends within a field is broken too.
-fn finished(mut f: Fields, p: Place) -> Fields {
-    let mode = p.mode;
-    match mode {
-        Mode::Between | Mode::Ended(_, _) => f,
-        _ => {
-            f.is_broken = true;
-            f
+    pub(crate) fn word(&mut self) -> Result<&'a [u8], Failure> {
+        self.bytes_of(Kind::Word)
+    }
+
+    pub(crate) fn bytes(&mut self) -> Result<&'a [u8], Failure> {
+        self.bytes_of(Kind::Bytes)
+    }
+
+    pub(crate) fn number(&mut self) -> Result<u64, Failure> {
+        match self.next()?.kind {
+            Kind::Number(n) => Ok(n),
+            _ => Err(Unreadable),
+        }
+    }
+
+    // `=>`, and the numbers of the answer that a case asks for.
+    pub(crate) fn answer<const N: usize>(&mut self) -> Result<[u64; N], Failure> {
+        self.bytes_of(Kind::Arrow)?;
+        let mut numbers = [0; N];
+        for n in numbers.iter_mut() {
+            *n = self.number()?;
+        }
+        Ok(numbers)
+    }
+
+    pub(crate) fn end(self) -> Result<(), Failure> {
+        if self.rest.is_empty() {
+            Ok(())
+        } else {
+            Err(Unreadable)
         }
     }
 }
 
-fn step(p: Place, out: &mut [u8], b: u8) -> Place {
-    let mode = p.mode;
-    act(p, out, next(mode, b))
-}
+impl Reader {
+    fn new(alloc: Global, room: usize) -> Reader {
+        let line = Line {
+            is_whole: false,
+            fields: Vec::new(alloc),
+            room,
+        };
+        Reader {
+            alloc,
+            line,
+            mode: Mode::Between,
+            bytes: Vec::new(alloc),
+            item: Vec::new(alloc),
+            room,
+        }
+    }
 
-fn act(p: Place, out: &mut [u8], a: Action) -> Place {
-    match a {
-        Action::Nothing(mode) => Place {
-            mode: mode,
-            item: p.item,
-            at: p.at,
-        },
-        Action::Begin(mode) => Place {
-            mode: mode,
-            item: p.at,
-            at: p.at,
-        },
-        Action::Put(b, mode) => put_until(p, put(out, p.at, b), mode),
-        Action::PutNumber(n, mode) => put_until(p, put_number(out, p.at, n), mode),
-        Action::Repeat(n, mode) => begin_at(repeat(out, p.item, p.at, n as usize), mode),
-        Action::Stop => begin_at(End::Nowhere, Mode::Broken),
+    fn into_line(self) -> Line {
+        let Reader {
+            alloc: _,
+            line,
+            mode: _,
+            bytes: _,
+            item: _,
+            room: _,
+        } = self;
+        line
     }
-}
 
-// The place after bytes were written up to an end.
-fn put_until(p: Place, end: End, mode: Mode) -> Place {
-    match end {
-        End::At(at) => Place {
-            mode: mode,
-            item: p.item,
-            at: at,
-        },
-        End::Nowhere => Place {
-            mode: Mode::Broken,
-            item: 0,
-            at: 0,
-        },
+    // Reads the whole line. Its end ends a field as a space does; a line that ends within a field is broken.
+    fn read(&mut self, text: &[u8]) -> Result<(), Failure> {
+        for b in text {
+            self.step(*b)?;
+        }
+        self.step(b' ')?;
+        match self.mode {
+            Mode::Between => Ok(()),
+            _ => Err(Unreadable),
+        }
     }
-}
 
-// The place where an item begins after bytes were written up to an end.
-fn begin_at(end: End, mode: Mode) -> Place {
-    match end {
-        End::At(at) => Place {
-            mode: mode,
-            item: at,
-            at: at,
-        },
-        End::Nowhere => Place {
-            mode: Mode::Broken,
-            item: 0,
-            at: 0,
-        },
+    // What the next byte does in each mode: the grammar of a line.
+    fn step(&mut self, b: u8) -> Result<(), Failure> {
+        self.mode = match self.mode {
+            Mode::Between => self.at_field(b)?,
+            Mode::Sign if b == b'>' => Mode::Space(Kind::Arrow),
+            Mode::Space(kind) if b == b' ' => self.end_field(kind)?,
+            Mode::Sign | Mode::Space(_) => return Err(Unreadable),
+            Mode::Word(so_far) => self.in_word(so_far, b)?,
+            Mode::Value if matches!(b, b' ' | b'=') => return Err(Unreadable),
+            Mode::Value => self.at_field(b)?,
+            Mode::Text => self.in_text(b)?,
+            Mode::Escape => self.in_escape(b)?,
+            Mode::HighDigit => Mode::LowDigit(digit(b, 16)?),
+            Mode::LowDigit(high) => self.put(high << 4 | digit(b, 16)?, Mode::Text)?,
+            Mode::Hex => in_hex(b)?,
+            Mode::HexDigit(high) => self.put(high << 4 | digit(b, 16)?, Mode::Hex)?,
+            Mode::List => in_list(b)?,
+            Mode::ListNumber(so_far) => self.in_list_number(so_far, b)?,
+            Mode::Item => self.after_item(b)?,
+            Mode::Star => Mode::Times(with_digit(0, b)?),
+            Mode::Times(so_far) => self.in_times(so_far, b)?,
+        };
+        Ok(())
     }
-}
 
-fn put(out: &mut [u8], at: usize, b: u8) -> End {
-    if at < out.len() {
-        out[at] = b;
-        return End::At(at + 1);
+    fn at_field(&mut self, b: u8) -> Result<Mode, Failure> {
+        match b {
+            b' ' => Ok(Mode::Between),
+            b'"' => self.begin(Mode::Text),
+            b'[' => self.begin(Mode::List),
+            b'{' => self.begin(Mode::Hex),
+            b'-' => Ok(Mode::Space(Kind::Bytes)),
+            b'=' => Ok(Mode::Sign),
+            _ => self.put(b, Mode::Word(with_digit(0, b).ok())),
+        }
     }
-    End::Nowhere
-}
 
-// Writes a number below 2^32 as four bytes, high first.
-fn put_number(out: &mut [u8], at: usize, n: u64) -> End {
-    if n > 4294967295 {
-        return End::Nowhere;
+    fn in_word(&mut self, so_far: Option<u64>, b: u8) -> Result<Mode, Failure> {
+        match (b, so_far) {
+            (b'=', _) => {
+                self.end_field(Kind::Name)?;
+                Ok(Mode::Value)
+            }
+            (b' ', Some(n)) => self.end_field(Kind::Number(n)),
+            (b' ', None) => self.end_field(Kind::Word),
+            _ => self.put(b, Mode::Word(so_far.and_then(|n| with_digit(n, b).ok()))),
+        }
     }
-    if out.len() < 4 {
-        return End::Nowhere;
-    }
-    if at > out.len() - 4 {
-        return End::Nowhere;
-    }
-    put(out, at, (n / 16777216) as u8);
-    put(out, at + 1, (n / 65536 % 256) as u8);
-    put(out, at + 2, (n / 256 % 256) as u8);
-    put(out, at + 3, (n % 256) as u8)
-}
 
-// Writes out[item..at] again and again after it, until it stands there `times` times.
-fn repeat(out: &mut [u8], item: usize, at: usize, times: usize) -> End {
-    if at <= item {
-        return End::At(at);
+    // A control byte in a text has to be written as an escape.
+    fn in_text(&mut self, b: u8) -> Result<Mode, Failure> {
+        match b {
+            b'"' => Ok(Mode::Item),
+            b'\\' => Ok(Mode::Escape),
+            _ if b.is_ascii_control() => Err(Unreadable),
+            _ => self.put(b, Mode::Text),
+        }
     }
-    if at > out.len() {
-        return End::Nowhere;
-    }
-    let size = at - item;
-    if times > (out.len() - item) / size {
-        return End::Nowhere;
-    }
-    let end = item + times * size;
-    let mut k = at;
-    while k < end {
-        out[k] = out[k - size];
-        k += 1;
-    }
-    End::At(end)
-}
 
-// What byte b does in a mode: the grammar of a line.
-fn next(mode: Mode, b: u8) -> Action {
-    match mode {
-        Mode::Between | Mode::Ended(_, _) => at_field(b),
-        Mode::Sign => if b == b'>' {
-            Action::Nothing(Mode::Space(ARROW))
-        } else {
-            Action::Stop
-        },
-        Mode::Space(kind) => if b == b' ' {
-            Action::Nothing(Mode::Ended(kind, 0))
-        } else {
-            Action::Stop
-        },
-        Mode::Word(so_far) => in_word(so_far, b),
-        Mode::Value => at_value(b),
-        Mode::Text => in_text(b),
-        Mode::Escape => in_escape(b),
-        Mode::HighDigit => Action::Nothing(Mode::LowDigit(hex_digit(b))),
-        Mode::LowDigit(high) => at_low_digit(high, b, Mode::Text),
-        Mode::Hex => in_hex(b),
-        Mode::HexDigit(high) => at_low_digit(high, b, Mode::Hex),
-        Mode::List => in_list(b),
-        Mode::ListNumber(so_far) => in_list_number(so_far, b),
-        Mode::Item => after_item(b),
-        Mode::Star => Action::Nothing(Mode::Times(with_digit(Decimal::Is(0), b))),
-        Mode::Times(so_far) => in_times(so_far, b),
-        Mode::Broken => Action::Stop,
+    fn in_escape(&mut self, b: u8) -> Result<Mode, Failure> {
+        match b {
+            b'n' => self.put(b'\n', Mode::Text),
+            b'r' => self.put(b'\r', Mode::Text),
+            b't' => self.put(b'\t', Mode::Text),
+            b'\\' | b'"' => self.put(b, Mode::Text),
+            b'x' => Ok(Mode::HighDigit),
+            _ => Err(Unreadable),
+        }
     }
-}
 
-fn at_field(b: u8) -> Action {
-    match b {
-        b' ' => Action::Nothing(Mode::Between),
-        b'"' => Action::Begin(Mode::Text),
-        b'[' => Action::Begin(Mode::List),
-        b'{' => Action::Begin(Mode::Hex),
-        b'-' => Action::Nothing(Mode::Space(BYTES)),
-        b'=' => Action::Nothing(Mode::Sign),
-        _ => Action::Put(b, Mode::Word(with_digit(Decimal::Is(0), b))),
+    fn in_list_number(&mut self, so_far: u64, b: u8) -> Result<Mode, Failure> {
+        match b {
+            b' ' => self.put_number(so_far, Mode::List),
+            b']' => self.put_number(so_far, Mode::Item),
+            _ => Ok(Mode::ListNumber(with_digit(so_far, b)?)),
+        }
     }
-}
 
-// A value follows its name and `=` at once.
-fn at_value(b: u8) -> Action {
-    match b {
-        b' ' | b'=' => Action::Stop,
-        _ => at_field(b),
+    fn after_item(&mut self, b: u8) -> Result<Mode, Failure> {
+        match b {
+            b'*' => Ok(Mode::Star),
+            b' ' => self.end_field(Kind::Bytes),
+            b'"' | b'[' | b'{' => self.at_field(b),
+            _ => Err(Unreadable),
+        }
     }
-}
 
-fn in_word(so_far: Decimal, b: u8) -> Action {
-    if b == b'=' {
-        return Action::Nothing(Mode::Value);
+    fn in_times(&mut self, so_far: u64, b: u8) -> Result<Mode, Failure> {
+        match b {
+            b' ' | b'"' | b'[' | b'{' => {
+                self.repeat(so_far)?;
+                self.after_item(b)
+            }
+            _ => Ok(Mode::Times(with_digit(so_far, b)?)),
+        }
     }
-    if b != b' ' {
-        return Action::Put(b, Mode::Word(with_digit(so_far, b)));
-    }
-    match so_far {
-        Decimal::Is(n) => Action::Nothing(Mode::Ended(NUMBER, n)),
-        Decimal::Broken => Action::Nothing(Mode::Ended(WORD, 0)),
-    }
-}
 
-// A control byte in a text has to be written as an escape.
-fn in_text(b: u8) -> Action {
-    match b {
-        b'"' => Action::Nothing(Mode::Item),
-        b'\\' => Action::Nothing(Mode::Escape),
-        0..=31 | 127 => Action::Stop,
-        _ => Action::Put(b, Mode::Text),
+    // An item begins: the one before it, if there is one, is done.
+    fn begin(&mut self, mode: Mode) -> Result<Mode, Failure> {
+        self.bytes.extend_from_slice(&self.item)?;
+        self.item.clear();
+        Ok(mode)
     }
-}
 
-fn in_escape(b: u8) -> Action {
-    match b {
-        b'n' => Action::Put(b'\n', Mode::Text),
-        b'r' => Action::Put(b'\r', Mode::Text),
-        b't' => Action::Put(b'\t', Mode::Text),
-        b'\\' | b'"' => Action::Put(b, Mode::Text),
-        b'x' => Action::Nothing(Mode::HighDigit),
-        _ => Action::Stop,
+    fn end_field(&mut self, kind: Kind) -> Result<Mode, Failure> {
+        if self.line.fields.len() >= MOST_FIELDS {
+            return Err(Unreadable);
+        }
+        let mode = self.begin(Mode::Between)?;
+        let bytes = mem::replace(&mut self.bytes, Vec::new(self.alloc));
+        self.line.fields.push(Field { kind, bytes })?;
+        self.line.room = self.room;
+        Ok(mode)
     }
-}
 
-// A byte's second digit, after which the line goes on in a mode.
-fn at_low_digit(high: u8, b: u8, after: Mode) -> Action {
-    let low = hex_digit(b);
-    if high > 15 {
-        return Action::Stop;
+    // Takes up room for so many bytes more.
+    fn take(&mut self, size: usize) -> Result<(), Failure> {
+        self.room = self.room.checked_sub(size).ok_or(Unreadable)?;
+        Ok(())
     }
-    if low > 15 {
-        return Action::Stop;
-    }
-    Action::Put(high * 16 + low, after)
-}
 
-// The value of a hexadecimal digit, or 16 for another byte.
-fn hex_digit(b: u8) -> u8 {
-    match b {
-        b'0'..=b'9' => b - b'0',
-        b'a'..=b'f' => b - b'a' + 10,
-        b'A'..=b'F' => b - b'A' + 10,
-        _ => 16,
+    fn put(&mut self, b: u8, mode: Mode) -> Result<Mode, Failure> {
+        self.take(1)?;
+        self.item.push(b)?;
+        Ok(mode)
+    }
+
+    // Puts a number below 2^32 as four bytes, high first.
+    fn put_number(&mut self, n: u64, mode: Mode) -> Result<Mode, Failure> {
+        let n = u32::try_from(n).map_err(|_| Unreadable)?;
+        self.take(4)?;
+        self.item.extend_from_slice(&n.to_be_bytes())?;
+        Ok(mode)
+    }
+
+    // The last item is to stand there so many times in all.
+    fn repeat(&mut self, times: u64) -> Result<(), Failure> {
+        let size = self.item.len();
+        if size == 0 {
+            return Ok(());
+        }
+        let all = size.checked_mul(times as usize).ok_or(Unreadable)?;
+        self.room = self.room.saturating_add(size);
+        self.take(all)?;
+        for _ in 0..times {
+            self.bytes.extend_from_slice(&self.item)?;
+        }
+        self.item.clear();
+        Ok(())
     }
 }
 
 // Spaces may stand between bytes in hexadecimal.
-fn in_hex(b: u8) -> Action {
+fn in_hex(b: u8) -> Result<Mode, Failure> {
     match b {
-        b' ' => Action::Nothing(Mode::Hex),
-        b'}' => Action::Nothing(Mode::Item),
-        _ => Action::Nothing(Mode::HexDigit(hex_digit(b))),
+        b' ' => Ok(Mode::Hex),
+        b'}' => Ok(Mode::Item),
+        _ => Ok(Mode::HexDigit(digit(b, 16)?)),
     }
 }
 
-fn in_list(b: u8) -> Action {
+fn in_list(b: u8) -> Result<Mode, Failure> {
     match b {
-        b' ' => Action::Nothing(Mode::List),
-        b']' => Action::Nothing(Mode::Item),
-        _ => Action::Nothing(Mode::ListNumber(with_digit(Decimal::Is(0), b))),
+        b' ' => Ok(Mode::List),
+        b']' => Ok(Mode::Item),
+        _ => Ok(Mode::ListNumber(with_digit(0, b)?)),
     }
 }
 
-fn in_list_number(so_far: Decimal, b: u8) -> Action {
-    let Decimal::Is(n) = so_far else {
-        return Action::Stop;
-    };
-    match b {
-        b' ' => Action::PutNumber(n, Mode::List),
-        b']' => Action::PutNumber(n, Mode::Item),
-        _ => Action::Nothing(Mode::ListNumber(with_digit(so_far, b))),
-    }
+// What a digit is worth.
+fn digit(b: u8, radix: u32) -> Result<u8, Failure>
+    requires { (2 ≤ radix) × (radix ≤ 36) }
+{
+    let worth = char::from(b).to_digit(radix).ok_or(Unreadable)?;
+    u8::try_from(worth).map_err(|_| Unreadable)
 }
 
-fn after_item(b: u8) -> Action {
-    match b {
-        b' ' => Action::Nothing(Mode::Ended(BYTES, 0)),
-        b'"' => Action::Begin(Mode::Text),
-        b'[' => Action::Begin(Mode::List),
-        b'{' => Action::Begin(Mode::Hex),
-        b'*' => Action::Nothing(Mode::Star),
-        _ => Action::Stop,
-    }
-}
-
-fn in_times(so_far: Decimal, b: u8) -> Action {
-    let Decimal::Is(n) = so_far else {
-        return Action::Stop;
-    };
-    match b {
-        b' ' => Action::Repeat(n, Mode::Ended(BYTES, 0)),
-        b'"' => Action::Repeat(n, Mode::Text),
-        b'[' => Action::Repeat(n, Mode::List),
-        b'{' => Action::Repeat(n, Mode::Hex),
-        _ => Action::Nothing(Mode::Times(with_digit(so_far, b))),
-    }
-}
-
-// A number with one digit more.
-fn with_digit(so_far: Decimal, b: u8) -> Decimal {
-    let Decimal::Is(n) = so_far else {
-        return Decimal::Broken;
-    };
-    if b < b'0' {
-        return Decimal::Broken;
-    }
-    if b > b'9' {
-        return Decimal::Broken;
-    }
-    let digit = (b - b'0') as u64;
-    if n > 1844674407370955161 {
-        return Decimal::Broken;
-    }
-    if n * 10 > 18446744073709551615 - digit {
-        return Decimal::Broken;
-    }
-    Decimal::Is(n * 10 + digit)
+// A number with one digit more, where it stays below 2^64.
+fn with_digit(n: u64, b: u8) -> Result<u64, Failure> {
+    let digit = u64::from(digit(b, 10)?);
+    let all = n.checked_mul(10).and_then(|n| n.checked_add(digit));
+    all.ok_or(Unreadable)
 }

@@ -5,35 +5,24 @@ ghost use Rattle.std.specs.Prelude.{◌≡◌};
 ghost use Rattle.verdicts.specs.Verdicts.{is_delivery, is_next_host, is_verdict};
 
 // Whether the verdict says "deliver".
+#[tactic(auto, unfolding(crate::specs::Verdicts::is_delivery))]
 pub fn is_delivery(v: u64) -> bool
     ensures { result ≡ is_delivery v }
 {
-    if v < 1 {
-        return false;
-    }
-    v <= 5
+    (1..=5).contains(&v)
 }
 
 // Whether the verdict says "next host".
+#[tactic(auto, unfolding(crate::specs::Verdicts::is_next_host))]
 pub fn is_next_host(v: u64) -> bool
     ensures { result ≡ is_next_host v }
 {
-    if v < 20 {
-        return false;
-    }
-    if 28 < v {
-        return false;
-    }
-    true
+    (20..=28).contains(&v)
 }
 
 // Whether the number is a verdict.
 pub fn is_verdict(v: u64) -> bool
     ensures { result ≡ is_verdict v }
 {
-    let delivery = is_delivery(v);
-    if delivery {
-        return true;
-    }
-    is_next_host(v)
+    is_delivery(v) || is_next_host(v)
 }

@@ -35,6 +35,7 @@ pub fn done(n: usize) -> WriteAnswer
 }
 
 // Writes the text over the output from `at` on; where it does not fit, the output is left as it was.
+#[tactic(auto, using(crate::proofs::Over::put_laws))]
 pub fn put(text: &[u8], output: &mut [u8], at: usize)
     ensures { output.new ≡ over at text.now output.old }
 {
@@ -48,13 +49,7 @@ pub fn put(text: &[u8], output: &mut [u8], at: usize)
 pub fn decimal_length(n: u64) -> usize
     ensures { result ≡ length (decimal n) }
 {
-    let mut tens = n;
-    let mut count = 1;
-    while 10 <= tens {
-        tens = tens / 10;
-        count += 1;
-    }
-    count
+    n.max(1).ilog10() as usize + 1
 }
 
 // The digit of a number below ten.
@@ -62,15 +57,14 @@ fn digit_of(n: u64) -> u8
     requires { n < 10 }
     ensures { result ≡ digit n }
 {
-    (48 + n) as u8
+    b'0' + n as u8
 }
 
 // Writes one byte over the output at a place, where there is one.
 fn put_byte(b: u8, output: &mut [u8], at: usize)
     ensures { output.new ≡ over at (b ∷ []) output.old }
 {
-    let text = [b];
-    put(&text, output, at);
+    put(&[b], output, at);
 }
 
 // Writes a number in decimal over the output from `at` on, its last digit first, and says how many digits it has; where they do not fit, the output is left as it was.
@@ -79,21 +73,14 @@ pub fn put_decimal(n: u64, output: &mut [u8], at: usize) -> usize
     ensures output_after { output.new ≡ over at (decimal n) output.old }
 {
     let size = decimal_length(n);
-    if output.len() < at {
-        return size;
-    }
-    if output.len() - at < size {
+    if output.len().saturating_sub(at) < size {
         return size;
     }
     let mut rest = n;
-    let mut left = size;
-    while 10 <= rest {
-        left -= 1;
-        let last = digit_of(rest % 10);
-        put_byte(last, output, at + left);
-        rest = rest / 10;
+    for k in (1..size).rev() {
+        put_byte(digit_of(rest % 10), output, at + k);
+        rest /= 10;
     }
-    let first = digit_of(rest);
-    put_byte(first, output, at);
+    put_byte(digit_of(rest), output, at);
     size
 }

@@ -1,4 +1,5 @@
 -- RFC 5280's fields: where the key and the GeneralNames are noted, and from which places the key is still to come. Assumes nothing.
+use Rattle.std.specs.Prelude.{Option, None, Some}
 use Prim.Native.Nat.{ℕ}
 use mathlib.Core.Path.{◌≡◌, refl, sym, ap, ◌∙◌}
 use mathlib.Core.Bool.{Bool, true, false, cond, ◌||◌}
@@ -8,9 +9,7 @@ use lib.Dec.{eqb}
 use Rattle.lists.proofs.Bools.{never, apart}
 use Rattle.x509.specs.declared.Place.{Place}
 use Rattle.x509.specs.declared.Note.{Note}
-use Rattle.x509.specs.declared.Inside.{Inside}
 use Rattle.x509.specs.declared.Field.{Field}
-use Rattle.x509.specs.declared.Expected.{Expected}
 use Rattle.x509.specs.Fields.{sequence, anything, tagged, holds, or_else, noting, string_name, built_name, expects, may_end}
 
 -- the key and the GeneralNames are noted where a SEQUENCE stands
@@ -20,61 +19,61 @@ loose Note.KeyInfo = false
 loose Note.NameValue = true
 loose Note.Alternatives = false
 
-unfoldable pub Noting : ℕ → Expected → Type 0
-Noting tag e = (f : Field) → e ≡ Expected.Fits f → loose f.note ≡ false → tag ≡ 48
+unfoldable pub Noting : ℕ → Option Field → Type 0
+Noting tag e = (f : Field) → e ≡ Some f → loose f.note ≡ false → tag ≡ 48
 
 noting_tagged : (wanted : ℕ) (after : Place) (tag : ℕ) → Noting tag (tagged wanted after tag)
 unfolding Noting tagged loose
 noting_tagged wanted after tag = go (eqb tag wanted)
   where
-    go : (b : Bool) (f : Field) → cond b (anything after) Expected.Misplaced ≡ Expected.Fits f → loose f.note ≡ false → tag ≡ 48
-    go true f e i = let q : record { note = Note.Nothing; inside = Inside.Free; after = after } ≡ f = cc in apart (sym i ∙ ap (λ (x : Field). loose x.note) (sym q))
+    go : (b : Bool) (f : Field) → cond b (anything after) None ≡ Some f → loose f.note ≡ false → tag ≡ 48
+    go true f e i = let q : record { note = Note.Nothing; inside = None; after = after } ≡ f = cc in apart (sym i ∙ ap (λ (x : Field). loose x.note) (sym q))
     go false f e i = never cc
 
 noting_holds : (wanted : ℕ) (inside after : Place) (tag : ℕ) → Noting tag (holds wanted inside after tag)
 unfolding Noting holds loose
 noting_holds wanted inside after tag = go (eqb tag wanted)
   where
-    go : (b : Bool) (f : Field) → cond b (Expected.Fits (record { note = Note.Nothing; inside = Inside.Holds inside; after = after })) Expected.Misplaced ≡ Expected.Fits f → loose f.note ≡ false → tag ≡ 48
-    go true f e i = let q : record { note = Note.Nothing; inside = Inside.Holds inside; after = after } ≡ f = cc in apart (sym i ∙ ap (λ (x : Field). loose x.note) (sym q))
+    go : (b : Bool) (f : Field) → cond b (Some (record { note = Note.Nothing; inside = Some inside; after = after })) None ≡ Some f → loose f.note ≡ false → tag ≡ 48
+    go true f e i = let q : record { note = Note.Nothing; inside = Some inside; after = after } ≡ f = cc in apart (sym i ∙ ap (λ (x : Field). loose x.note) (sym q))
     go false f e i = never cc
 
 noting_any : (after : Place) (tag : ℕ) → Noting tag (anything after)
 unfolding Noting loose
-noting_any after tag f e i = let q : record { note = Note.Nothing; inside = Inside.Free; after = after } ≡ f = cc in apart (sym i ∙ ap (λ (x : Field). loose x.note) (sym q))
+noting_any after tag f e i = let q : record { note = Note.Nothing; inside = None; after = after } ≡ f = cc in apart (sym i ∙ ap (λ (x : Field). loose x.note) (sym q))
 
 noting_name : (after : Place) (tag : ℕ) → Noting tag (noting Note.NameValue (anything after))
 unfolding Noting loose noting
-noting_name after tag f e i = let q : record { note = Note.NameValue; inside = Inside.Free; after = after } ≡ f = cc in apart (sym i ∙ ap (λ (x : Field). loose x.note) (sym q))
+noting_name after tag f e i = let q : record { note = Note.NameValue; inside = None; after = after } ≡ f = cc in apart (sym i ∙ ap (λ (x : Field). loose x.note) (sym q))
 
-noting_none : (tag : ℕ) → Noting tag Expected.Misplaced
+noting_none : (tag : ℕ) → Noting tag None
 unfolding Noting
 noting_none tag f e i = never cc
 
-noting_else : (tag : ℕ) (a b : Expected) → Noting tag a → Noting tag b → Noting tag (or_else a b)
+noting_else : (tag : ℕ) (a b : Option Field) → Noting tag a → Noting tag b → Noting tag (or_else a b)
 unfolding or_else
-noting_else tag (Expected.Fits g) b x y = x
-noting_else tag Expected.Misplaced b x y = y
+noting_else tag (Some g) b x y = x
+noting_else tag None b x y = y
 
-noting_cond : (tag : ℕ) (t : Bool) (a b : Expected) → Noting tag a → Noting tag b → Noting tag (cond t a b)
+noting_cond : (tag : ℕ) (t : Bool) (a b : Option Field) → Noting tag a → Noting tag b → Noting tag (cond t a b)
 noting_cond tag true a b x y = x
 noting_cond tag false a b x y = y
 
-noting_sequence : (note : Note) (inside : Inside) (after : Place) (tag : ℕ) → Noting tag (noting note (cond (eqb tag 48) (Expected.Fits (record { note = Note.Nothing; inside = inside; after = after })) Expected.Misplaced))
+noting_sequence : (note : Note) (inside : Option Place) (after : Place) (tag : ℕ) → Noting tag (noting note (cond (eqb tag 48) (Some (record { note = Note.Nothing; inside = inside; after = after })) None))
 unfolding Noting noting
 noting_sequence note inside after tag = go (eqb tag 48) refl
   where
-    go : (b : Bool) → eqb tag 48 ≡ b → (f : Field) → noting note (cond b (Expected.Fits (record { note = Note.Nothing; inside = inside; after = after })) Expected.Misplaced) ≡ Expected.Fits f → loose f.note ≡ false → tag ≡ 48
+    go : (b : Bool) → eqb tag 48 ≡ b → (f : Field) → noting note (cond b (Some (record { note = Note.Nothing; inside = inside; after = after })) None) ≡ Some f → loose f.note ≡ false → tag ≡ 48
     go true q f e i = eqb-true tag 48 q
     go false q f e i = never cc
 
 noting_key : (after : Place) (tag : ℕ) → Noting tag (noting Note.KeyInfo (tagged sequence after tag))
 unfolding tagged
-noting_key after tag = noting_sequence Note.KeyInfo Inside.Free after tag
+noting_key after tag = noting_sequence Note.KeyInfo None after tag
 
 noting_alternatives : (inside after : Place) (tag : ℕ) → Noting tag (noting Note.Alternatives (holds sequence inside after tag))
 unfolding holds
-noting_alternatives inside after tag = noting_sequence Note.Alternatives (Inside.Holds inside) after tag
+noting_alternatives inside after tag = noting_sequence Note.Alternatives (Some inside) after tag
 
 ruleset noting_laws = (noting_tagged, noting_holds, noting_any, noting_name, noting_none, noting_else, noting_cond, noting_key, noting_alternatives)
 
@@ -199,9 +198,9 @@ due_on Place.DirectoryName e = apart e
 due_on Place.End e = refl
 
 -- a field after which, or in which, it is still to come, or which is it
-unfoldable pub due_in : Inside → Bool
-due_in Inside.Free = false
-due_in (Inside.Holds p) = due p
+unfoldable pub due_in : Option Place → Bool
+due_in None = false
+due_in (Some p) = due p
 
 unfoldable pub is_key : Note → Bool
 is_key Note.Nothing = false
@@ -212,43 +211,43 @@ is_key Note.Alternatives = false
 unfoldable pub leads : Field → Bool
 leads f = due f.after || (is_key f.note || due_in f.inside)
 
-unfoldable pub Leading : Expected → Type 0
-Leading e = (f : Field) → e ≡ Expected.Fits f → leads f ≡ true
+unfoldable pub Leading : Option Field → Type 0
+Leading e = (f : Field) → e ≡ Some f → leads f ≡ true
 
-leading_field : (g : Field) → leads g ≡ true → Leading (Expected.Fits g)
+leading_field : (g : Field) → leads g ≡ true → Leading (Some g)
 unfolding Leading
 leading_field g l f e = let q : g ≡ f = cc in rw q at l
 
-leading_none : Leading Expected.Misplaced
+leading_none : Leading None
 unfolding Leading
 leading_none f e = never cc
 
-leading_cond : (b : Bool) (x y : Expected) → Leading x → Leading y → Leading (cond b x y)
+leading_cond : (b : Bool) (x y : Option Field) → Leading x → Leading y → Leading (cond b x y)
 leading_cond true x y a c = a
 leading_cond false x y a c = c
 
-leading_else : (x y : Expected) → Leading x → Leading y → Leading (or_else x y)
+leading_else : (x y : Option Field) → Leading x → Leading y → Leading (or_else x y)
 unfolding or_else
-leading_else (Expected.Fits g) y a c = a
-leading_else Expected.Misplaced y a c = c
+leading_else (Some g) y a c = a
+leading_else None y a c = c
 
 leading_tagged : (wanted : ℕ) (after : Place) (tag : ℕ) → due after ≡ true → Leading (tagged wanted after tag)
 unfolding tagged leads
 leading_tagged wanted after tag d =
-    leading_cond (eqb tag wanted) (anything after) Expected.Misplaced (leading_field (record { note = Note.Nothing; inside = Inside.Free; after = after }) (rw d)) leading_none
+    leading_cond (eqb tag wanted) (anything after) None (leading_field (record { note = Note.Nothing; inside = None; after = after }) (rw d)) leading_none
 
 leading_holds : (wanted : ℕ) (inside after : Place) (tag : ℕ) → due after || due inside ≡ true → Leading (holds wanted inside after tag)
 unfolding holds leads is_key due_in
 leading_holds wanted inside after tag d =
-    leading_cond (eqb tag wanted) (Expected.Fits (record { note = Note.Nothing; inside = Inside.Holds inside; after = after })) Expected.Misplaced
-    (leading_field (record { note = Note.Nothing; inside = Inside.Holds inside; after = after }) d) leading_none
+    leading_cond (eqb tag wanted) (Some (record { note = Note.Nothing; inside = Some inside; after = after })) None
+    (leading_field (record { note = Note.Nothing; inside = Some inside; after = after }) d) leading_none
 
 leading_key : (tag : ℕ) → Leading (noting Note.KeyInfo (tagged sequence Place.IssuerUniqueId tag))
 unfolding noting tagged leads due is_key
 leading_key tag = go (eqb tag 48)
   where
-    go : (b : Bool) → Leading (noting Note.KeyInfo (cond b (anything Place.IssuerUniqueId) Expected.Misplaced))
-    go true = leading_field (record { note = Note.KeyInfo; inside = Inside.Free; after = Place.IssuerUniqueId }) refl
+    go : (b : Bool) → Leading (noting Note.KeyInfo (cond b (anything Place.IssuerUniqueId) None))
+    go true = leading_field (record { note = Note.KeyInfo; inside = None; after = Place.IssuerUniqueId }) refl
     go false = leading_none
 
 pub leading : (p : Place) → due p ≡ true → (tag : ℕ) (c : List ℕ) → Leading (expects p tag c)
@@ -288,10 +287,10 @@ leading Place.GeneralName e tag c = apart e
 leading Place.DirectoryName e tag c = apart e
 leading Place.End e tag c = apart e
 
-pub leading_is : (p : Place) → due p ≡ true → (tag : ℕ) (c : List ℕ) (f : Field) → expects p tag c ≡ Expected.Fits f → due f.after || (is_key f.note || due_in f.inside) ≡ true
+pub leading_is : (p : Place) → due p ≡ true → (tag : ℕ) (c : List ℕ) (f : Field) → expects p tag c ≡ Some f → due f.after || (is_key f.note || due_in f.inside) ≡ true
 unfolding Leading leads
 leading_is p d tag c = leading p d tag c
 
-pub tag_of : (p : Place) (tag : ℕ) (c : List ℕ) (f : Field) → expects p tag c ≡ Expected.Fits f → loose f.note ≡ false → tag ≡ 48
+pub tag_of : (p : Place) (tag : ℕ) (c : List ℕ) (f : Field) → expects p tag c ≡ Some f → loose f.note ≡ false → tag ≡ 48
 unfolding Noting
 tag_of p tag c = note_tag p tag c

@@ -1,4 +1,5 @@
 -- The ways out of `element` and of `run`, and where the walk of an element ends. Assumes nothing.
+use Rattle.std.specs.Prelude.{Option, None, Some, Result, Ok, Err}
 use Prim.Native.Nat.{ℕ, zero, suc, ◌+◌, ◌-◌, ◌<◌, ◌≤◌}
 use mathlib.Core.Path.{◌≡◌, refl, sym, ap, ◌∙◌}
 use mathlib.Core.Bool.{Bool, true, false}
@@ -10,31 +11,24 @@ use borrow.Author.Tests.{not-true, not-false}
 use lib.ListN.{length, take, drop}
 use Rattle.lists.proofs.Bools.{never}
 use Rattle.der.specs.declared.Head.{Head}
-use Rattle.der.specs.declared.Header.{Header}
-use Rattle.der.specs.declared.Walk.{Walk}
 use Rattle.der.specs.Header.{header}
 use Rattle.der.specs.Walk as Der
-use Rattle.der.proofs.Heads.{opens_bounds, end_inside, header_outside}
-use Rattle.reader.specs.declared.Step.{Step}
-use Rattle.reader.specs.Read.{step_at}
-use Rattle.reader.proofs.Moves.{step_ends, step_breaks, step_opens}
+use Rattle.der.specs.Walk.{fault}
+use Rattle.der.proofs.Heads.{opens_bounds, end_inside}
+use Rattle.der.specs.declared.Fault.{Fault}
 use Rattle.x509.specs.declared.Place.{Place}
-use Rattle.x509.specs.declared.Inside.{Inside}
 use Rattle.x509.specs.declared.Field.{Field}
-use Rattle.x509.specs.declared.Expected.{Expected}
+use Rattle.x509.specs.declared.Progress.{Progress}
 use Rattle.x509.specs.declared.Noted.{Noted}
-use Rattle.x509.specs.declared.Met.{Met}
-use Rattle.x509.specs.declared.ElementWalk.{ElementWalk}
-use Rattle.x509.specs.declared.RunWalk.{RunWalk}
 use Rattle.x509.specs.Fields.{expects, may_end}
-use Rattle.x509.specs.Walk.{ElementWalker, RunWalker, noted, and_then, at_end, run_from, walk_run, met_as, met_by, met, passing, leaving, walk_met, opened, walk_element}
+use Rattle.x509.specs.Walk.{past, ElementWalker, RunWalker, noted, and_then, at_end, run_from, walk_run, passing, leaving, walk_in, walk_met, opened, walk_element}
 
 -- the definitions, a case at a time
-pub then_fault : (w : ElementWalk) (o : ℕ) (go : ℕ → Place → Noted → RunWalk) → w ≡ ElementWalk.Fault o → and_then w go ≡ RunWalk.Fault o
+pub then_fault : (w : Result Progress Fault) (o : Fault) (go : ℕ → Place → Noted → Result Noted Fault) → w ≡ Err o → and_then w go ≡ Err o
 unfolding and_then
 then_fault w o go e = rw e
 
-pub then_past : (w : ElementWalk) (next : ℕ) (p : Place) (n : Noted) (go : ℕ → Place → Noted → RunWalk) → w ≡ ElementWalk.Past next p n → and_then w go ≡ go next p n
+pub then_past : (w : Result Progress Fault) (next : ℕ) (p : Place) (n : Noted) (go : ℕ → Place → Noted → Result Noted Fault) → w ≡ past next p n → and_then w go ≡ go next p n
 unfolding and_then
 then_past w next p n go e = rw e
 
@@ -57,7 +51,7 @@ skip_run walk s (suc left) (suc k) p n at h =
 
 -- a walker that, where it has no fault, passes a byte or more and stays inside
 unfoldable pub Steps : ElementWalker → Type 0
-Steps walk = (p : Place) (n : Noted) (s : List ℕ) (at next : ℕ) (q : Place) (m : Noted) → walk p n s at ≡ ElementWalk.Past next q m → (at < next) × (next ≤ length s)
+Steps walk = (p : Place) (n : Noted) (s : List ℕ) (at next : ℕ) (q : Place) (m : Noted) → walk p n s at ≡ past next q m → (at < next) × (next ≤ length s)
 
 -- a run from a place on: it ends there, or its first element is walked
 pub run_over : (walk : ElementWalker) (p : Place) (n : Noted) (s : List ℕ) (i : ℕ) → length s ≤ i → walk_run walk p n s i ≡ at_end p n i
@@ -65,17 +59,17 @@ unfolding walk_run run_from
 run_over walk p n s i h = let z : length s - i ≡ 0 = omega arith in rw z
 
 module _ (walk : ElementWalker) (p : Place) (n : Noted) (s : List ℕ) (i : ℕ) (more : i < length s) where
-  abbrev onward : ℕ → Place → Noted → RunWalk
+  abbrev onward : ℕ → Place → Noted → Result Noted Fault
   onward next q m = run_from walk s (length s - (i + 1)) (next - (i + 1)) q m (i + 1)
 
   run_first : walk_run walk p n s i ≡ and_then (walk p n s i) onward
   unfolding walk_run
   run_first = let z : length s - i ≡ suc (length s - (i + 1)) = omega arith in rw z (run_here walk s (length s - (i + 1)) p n i)
 
-  pub run_stops : (o : ℕ) → walk p n s i ≡ ElementWalk.Fault o → walk_run walk p n s i ≡ RunWalk.Fault o
+  pub run_stops : (o : Fault) → walk p n s i ≡ Err o → walk_run walk p n s i ≡ Err o
   run_stops o e = run_first ∙ then_fault (walk p n s i) o onward e
 
-  pub run_goes : Steps walk → (next : ℕ) (q : Place) (m : Noted) → walk p n s i ≡ ElementWalk.Past next q m → walk_run walk p n s i ≡ walk_run walk q m s next
+  pub run_goes : Steps walk → (next : ℕ) (q : Place) (m : Noted) → walk p n s i ≡ past next q m → walk_run walk p n s i ≡ walk_run walk q m s next
   unfolding walk_run Steps
   run_goes steps next q m e =
       let b = steps p n s i next q m e in
@@ -87,159 +81,143 @@ module _ (walk : ElementWalker) (p : Place) (n : Noted) (s : List ℕ) (i : ℕ)
 -- a turn of the loop over a run, and its ways out
 module _ (walk : ElementWalker) (steps : Steps walk) (s : List ℕ) (first : Place) (none : Noted) (at : ℕ) (p : Place) (n : Noted) (i : ℕ) (inv : walk_run walk first none s at ≡ walk_run walk p n s i) where
   module _ (over : length s ≤ i) (d : Bool) (is_d : d ≡ may_end p) where
-    pub run_end : d ≡ true → RunWalk.Past n ≡ walk_run walk first none s at
+    pub run_end : d ≡ true → Ok n ≡ walk_run walk first none s at
     unfolding at_end
     run_end e = cc (run_over walk p n s i over)
 
-    pub run_missing : d ≡ false → RunWalk.Fault i ≡ walk_run walk first none s at
+    pub run_missing : d ≡ false → fault i ≡ walk_run walk first none s at
     unfolding at_end
     run_missing e = cc (run_over walk p n s i over)
 
-  module _ (more : i < length s) (w : ElementWalk) (walked : w ≡ walk p n s i) where
-    pub run_fault : (o : ℕ) → w ≡ ElementWalk.Fault o → RunWalk.Fault o ≡ walk_run walk first none s at
+  module _ (more : i < length s) (w : Result Progress Fault) (walked : w ≡ walk p n s i) where
+    pub run_fault : (o : Fault) → w ≡ Err o → Err o ≡ walk_run walk first none s at
     run_fault o e = sym (inv ∙ run_stops walk p n s i more o (sym walked ∙ e))
 
-    module _ (next : ℕ) (q : Place) (m : Noted) (past : w ≡ ElementWalk.Past next q m) where
-      pub run_less : length s - next < length s - i
+    module _ (on : Progress) (passed : w ≡ Ok on) where
+      pub run_less : length s - on.at < length s - i
       unfolding Steps
-      run_less = omega (arith, (steps p n s i next q m (sym walked ∙ past)).0)
+      run_less = omega (arith, (steps p n s i on.at on.place on.noted (sym walked ∙ passed)).0)
 
-      pub run_next : walk_run walk first none s at ≡ walk_run walk q m s next
-      run_next = inv ∙ run_goes walk p n s i more steps next q m (sym walked ∙ past)
+      pub run_next : walk_run walk first none s at ≡ walk_run walk on.place on.noted s on.at
+      run_next = inv ∙ run_goes walk p n s i more steps on.at on.place on.noted (sym walked ∙ passed)
 
 -- an element ends where its header says
-pub fault_past : {A : Type 0} (o next : ℕ) (q : Place) (m : Noted) → ElementWalk.Fault o ≡ ElementWalk.Past next q m → A
+pub fault_past : {A : Type 0} (o : Fault) (next : ℕ) (q : Place) (m : Noted) → Err o ≡ past next q m → A
 fault_past o next q m e = never cc
 
-pub same_end : (a b : ℕ) (p q : Place) (n m : Noted) → ElementWalk.Past a p n ≡ ElementWalk.Past b q m → a ≡ b
-same_end a b p q n m e = cc
+pub same_progress : (x y : Progress) → ◌≡◌ {A = Result Progress Fault} (Ok x) (Ok y) → x ≡ y
+same_progress x y e = cc
 
-pub passing_end : (end : ℕ) (after : Place) (n : Noted) (w : Walk) (next : ℕ) (q : Place) (m : Noted) → passing end after n w ≡ ElementWalk.Past next q m → end ≡ next
+pub same_end : (a b : ℕ) (p q : Place) (n m : Noted) → past a p n ≡ past b q m → a ≡ b
+same_end a b p q n m e = ap (λ (x : Progress). x.at) (same_progress (record { at = a; place = p; noted = n }) (record { at = b; place = q; noted = m }) e)
+
+pub passing_end : (end : ℕ) (after : Place) (n : Noted) (w : Result ℕ Fault) (next : ℕ) (q : Place) (m : Noted) → passing end after n w ≡ past next q m → end ≡ next
 unfolding passing
-passing_end end after n (Walk.Fault o) next q m e = fault_past o next q m e
-passing_end end after n (Walk.Past x) next q m e = same_end end next after q n m e
+passing_end end after n (Err o) next q m e = fault_past o next q m e
+passing_end end after n (Ok x) next q m e = same_end end next after q n m e
 
-pub leaving_end : (end : ℕ) (after : Place) (w : RunWalk) (next : ℕ) (q : Place) (m : Noted) → leaving end after w ≡ ElementWalk.Past next q m → end ≡ next
+pub leaving_end : (end : ℕ) (after : Place) (w : Result Noted Fault) (next : ℕ) (q : Place) (m : Noted) → leaving end after w ≡ past next q m → end ≡ next
 unfolding leaving
-leaving_end end after (RunWalk.Fault o) next q m e = fault_past o next q m e
-leaving_end end after (RunWalk.Past n) next q m e = same_end end next after q n m e
+leaving_end end after (Err o) next q m e = fault_past o next q m e
+leaving_end end after (Ok n) next q m e = same_end end next after q n m e
 
-met_end : (free : Der.Walker) (run : RunWalker) (s : List ℕ) (at : ℕ) (h : Head) (x : Met) (next : ℕ) (q : Place) (m : Noted) → walk_met free run s at h x ≡ ElementWalk.Past next q m → h.end ≡ next
+in_end : (free : Der.Walker) (run : RunWalker) (s : List ℕ) (h : Head) (after : Place) (n : Noted) (x : Option Place) (next : ℕ) (q : Place) (m : Noted) → walk_in free run s h after n x ≡ past next q m → h.end ≡ next
+unfolding walk_in
+in_end free run s h after n None next q m e = passing_end h.end after n (Der.walk_contents free s h) next q m e
+in_end free run s h after n (Some inside) next q m e = leaving_end h.end after (run inside n (take h.end s) h.start) next q m e
+
+met_end : (free : Der.Walker) (run : RunWalker) (s : List ℕ) (at : ℕ) (h : Head) (n : Noted) (x : Option Field) (next : ℕ) (q : Place) (m : Noted) → walk_met free run s at h n x ≡ past next q m → h.end ≡ next
 unfolding walk_met
-met_end free run s at h Met.Refused next q m e = fault_past at next q m e
-met_end free run s at h (Met.Passed after n) next q m e = passing_end h.end after n (Der.walk_contents free s h) next q m e
-met_end free run s at h (Met.Entered inside after n) next q m e = leaving_end h.end after (run inside n (take h.end s) h.start) next q m e
+met_end free run s at h n None next q m e = never cc
+met_end free run s at h n (Some f) next q m e = in_end free run s h f.after (noted f.note at n) f.inside next q m e
 
-opened_steps : (free : Der.Walker) (run : RunWalker) (p : Place) (n : Noted) (s : List ℕ) (at : ℕ) (d : Header) (next : ℕ) (q : Place) (m : Noted)
-    → d ≡ header at (drop at s) → opened free run p n s at d ≡ ElementWalk.Past next q m → (at < next) × (next ≤ length s)
+opened_steps : (free : Der.Walker) (run : RunWalker) (p : Place) (n : Noted) (s : List ℕ) (at : ℕ) (d : Option Head) (next : ℕ) (q : Place) (m : Noted)
+    → d ≡ header at (drop at s) → opened free run p n s at d ≡ past next q m → (at < next) × (next ≤ length s)
 unfolding opened
-opened_steps free run p n s at Header.NoHeader next q m i e = fault_past at next q m e
-opened_steps free run p n s at (Header.Opens h) next q m i e =
-    let l = met_end free run s at h (met s at h p n) next q m e in
+opened_steps free run p n s at None next q m i e = never cc
+opened_steps free run p n s at (Some h) next q m i e =
+    let l = met_end free run s at h n (expects p h.tag (take (h.end - h.start) (drop h.start s))) next q m e in
     let b = opens_bounds at (drop at s) h (sym i) in
-    (omega (arith, b.0, b.1.0), omega (arith, end_inside s at (Header.Opens h) h i refl))
+    (omega (arith, b.0, b.1.0), omega (arith, end_inside s at (Some h) h i refl))
 
 pub element_steps : (levels : ℕ) → Steps (walk_element levels)
 unfolding walk_element Steps
-element_steps zero p n s at next q m e = fault_past at next q m e
+element_steps zero p n s at next q m e = never cc
 element_steps (suc levels) p n s at next q m e = opened_steps (Der.walk_run (Der.walk_element levels)) (walk_run (walk_element levels)) p n s at (header at (drop at s)) next q m refl e
 
 -- a part from the front
 front : (s : List ℕ) (e : ℕ) → take (e - 0) (drop 0 s) ≡ take e s
 front s e = let z : e - 0 ≡ e = omega arith in rw z
 
--- an element that a reader meets lies inside what holds it
-module _ (s : List ℕ) (at : ℕ) (x : Step) (h : Head) (is_x : x ≡ step_at s at) (meets : x ≡ Step.Element h) where
-  step_header : header at (drop at s) ≡ Header.Opens h
-  step_header = (step_opens s at h (sym is_x ∙ meets)).1
+-- an element lies inside what holds it
+module _ (s : List ℕ) (at : ℕ) (d : Option Head) (h : Head) (is_d : d ≡ header at (drop at s)) (opens : d ≡ Some h) where
+  pub head_order : h.start ≤ h.end
+  head_order = (opens_bounds at (drop at s) h (sym is_d ∙ opens)).1.0
 
-  pub step_order : h.start ≤ h.end
-  step_order = (opens_bounds at (drop at s) h step_header).1.0
-
-  pub step_inside : h.end ≤ length s
-  step_inside = end_inside s at (Header.Opens h) h (sym step_header) refl
+  pub head_inside : h.end ≤ length s
+  head_inside = end_inside s at d h is_d opens
 
 -- the ways out of `element`
 module _ (s : List ℕ) (levels at : ℕ) (p : Place) (n : Noted) where
-  pub element_deep : levels ≡ 0 → ElementWalk.Fault at ≡ walk_element levels p n s at
+  pub element_deep : levels ≡ 0 → fault at ≡ walk_element levels p n s at
   unfolding walk_element
   element_deep e = rw e
 
-  module _ (some : levels ≡ 0 → ⊥) (x : Step) (is_x : x ≡ step_at s at) where
+  module _ (some : levels ≡ 0 → ⊥) (d : Option Head) (is_d : d ≡ header at (drop at s)) where
     abbrev free : Der.Walker
     free = Der.walk_run (Der.walk_element (levels - 1))
 
     abbrev inner : RunWalker
     inner = walk_run (walk_element (levels - 1))
 
-    a_level : opened free inner p n s at (header at (drop at s)) ≡ walk_element levels p n s at
+    a_level : opened free inner p n s at d ≡ walk_element levels p n s at
     unfolding walk_element
-    a_level = let z : levels ≡ suc (levels - 1) = omega arith in ap (λ (l : ℕ). walk_element l p n s at) (sym z)
+    a_level = let z : levels ≡ suc (levels - 1) = omega arith in rw is_d (ap (λ (l : ℕ). walk_element l p n s at) (sym z))
 
-    no_header : header at (drop at s) ≡ Header.NoHeader → ElementWalk.Fault at ≡ walk_element levels p n s at
+    pub element_none : d ≡ None → fault at ≡ walk_element levels p n s at
     unfolding opened
-    no_header e = cc (a_level)
+    element_none e = cc (a_level)
 
-    pub element_end : x ≡ Step.End → ElementWalk.Fault at ≡ walk_element levels p n s at
-    element_end e = no_header (sym (header_outside s at (step_ends s at (sym is_x ∙ e))))
-
-    pub element_broken : x ≡ Step.Broken → ElementWalk.Fault at ≡ walk_element levels p n s at
-    element_broken e = no_header (step_breaks s at (sym is_x ∙ e)).1
-
-    module _ (h : Head) (opens : x ≡ Step.Element h) (y : Met) (is_y : y ≡ met s at h p n) where
-      here : walk_met free inner s at h y ≡ walk_element levels p n s at
+    module _ (h : Head) (opens : d ≡ Some h) (x : Option Field) (is_x : x ≡ expects p h.tag (take (h.end - h.start) (drop h.start s))) where
+      here : walk_met free inner s at h n x ≡ walk_element levels p n s at
       unfolding opened
-      here = cc (a_level, step_header s at x h is_x opens)
+      here = cc (a_level)
 
-      pub element_misplaced : y ≡ Met.Refused → ElementWalk.Fault at ≡ walk_element levels p n s at
+      pub element_misplaced : x ≡ None → fault at ≡ walk_element levels p n s at
       unfolding walk_met
       element_misplaced e = cc (here)
 
-      pub element_passed : (after : Place) (m : Noted) (w : Walk) (r : ElementWalk) → y ≡ Met.Passed after m
-          → w ≡ Der.walk_contents (Der.walk_run (Der.walk_element (levels - 1))) s h → r ≡ passing h.end after m w → r ≡ walk_element levels p n s at
-      unfolding walk_met
-      element_passed after m w r e f g = cc (here)
+      module _ (f : Field) (fits : x ≡ Some f) (m : Noted) (is_m : m ≡ noted f.note at n) where
+        field_here : walk_in free inner s h f.after m f.inside ≡ walk_element levels p n s at
+        unfolding walk_met
+        field_here = cc (here)
 
-      pub element_entered : (inside after : Place) (m : Noted) (w : RunWalk) (r : ElementWalk) → y ≡ Met.Entered inside after m
-          → w ≡ walk_run (walk_element (levels - 1)) inside m (take (h.end - 0) (drop 0 s)) h.start → r ≡ leaving h.end after w → r ≡ walk_element levels p n s at
-      unfolding walk_met
-      element_entered inside after m w r e f g = cc (here, front s h.end)
+        module _ (w : Result ℕ Fault) (is_w : w ≡ Der.walk_contents (Der.walk_run (Der.walk_element (levels - 1))) s h) (any : f.inside ≡ None) where
+          passing_here : passing h.end f.after m w ≡ walk_element levels p n s at
+          unfolding walk_in
+          passing_here = cc (field_here)
 
--- the ways out of `meet`
-module _ (s : List ℕ) (at : ℕ) (h : Head) (p : Place) (before : Noted) (x : Expected) (is_x : x ≡ expects p h.tag (take (h.end - h.start) (drop h.start s))) where
-  pub met_refused : x ≡ Expected.Misplaced → Met.Refused ≡ met s at h p before
-  unfolding met met_by
-  met_refused e = cc
+          pub free_fault : (o : Fault) → w ≡ Err o → Err o ≡ walk_element levels p n s at
+          unfolding passing
+          free_fault o e = cc (passing_here)
 
-  module _ (f : Field) (fits : x ≡ Expected.Fits f) (n : Noted) (is_n : n ≡ noted f.note at before) where
-    pub met_passed : f.inside ≡ Inside.Free → Met.Passed f.after n ≡ met s at h p before
-    unfolding met met_by met_as
-    met_passed e = cc
+          pub free_past : (k : ℕ) → w ≡ Ok k → past h.end f.after m ≡ walk_element levels p n s at
+          unfolding passing
+          free_past k e = cc (passing_here)
 
-    pub met_entered : (first : Place) → f.inside ≡ Inside.Holds first → Met.Entered first f.after n ≡ met s at h p before
-    unfolding met met_by met_as
-    met_entered first e = cc
+        module _ (first : Place) (fields : f.inside ≡ Some first) (w : Result Noted Fault) (is_w : w ≡ walk_run (walk_element (levels - 1)) first m (take h.end s) h.start) where
+          leaving_here : leaving h.end f.after w ≡ walk_element levels p n s at
+          unfolding walk_in
+          leaving_here = cc (field_here)
 
--- the ways out of `passing` and of `leaving`
-module _ (end : ℕ) (after : Place) where
-  pub passing_fault : (n : Noted) (w : Walk) (o : ℕ) → w ≡ Walk.Fault o → ElementWalk.Fault o ≡ passing end after n w
-  unfolding passing
-  passing_fault n w o e = cc
+          pub fields_fault : (o : Fault) → w ≡ Err o → Err o ≡ walk_element levels p n s at
+          unfolding leaving
+          fields_fault o e = cc (leaving_here)
 
-  pub passing_past : (n : Noted) (w : Walk) (x : ℕ) → w ≡ Walk.Past x → ElementWalk.Past end after n ≡ passing end after n w
-  unfolding passing
-  passing_past n w x e = cc
+          pub fields_past : (k : Noted) → w ≡ Ok k → past h.end f.after k ≡ walk_element levels p n s at
+          unfolding leaving
+          fields_past k e = cc (leaving_here)
 
-  pub leaving_fault : (w : RunWalk) (o : ℕ) → w ≡ RunWalk.Fault o → ElementWalk.Fault o ≡ leaving end after w
-  unfolding leaving
-  leaving_fault w o e = cc
-
-  pub leaving_past : (w : RunWalk) (n : Noted) → w ≡ RunWalk.Past n → ElementWalk.Past end after n ≡ leaving end after w
-  unfolding leaving
-  leaving_past w n e = cc
-
-pub ruleset met_laws = (met_refused, met_passed, met_entered, passing_fault, passing_past, leaving_fault, leaving_past, rules)
-
-pub ruleset element_laws = (step_inside, step_order, element_deep, element_end, element_broken, element_misplaced, element_passed, element_entered, rules)
+pub ruleset element_laws = (head_inside, head_order, element_deep, element_none, element_misplaced, free_fault, free_past, fields_fault, fields_past, rules)
 
 pub ruleset run_laws = (element_steps, run_end, run_missing, run_fault, run_less, run_next, not-true, not-false, rules)

@@ -1,14 +1,12 @@
 -- RFC 5280, 4.1, 4.2 and 4.2.1.6: the fields of Certificate, TBSCertificate, its subject, Extension and GeneralNames. Document 02, No. 7: "RFC 5280's tags (with those
 -- inside explicit ones) and order bind" them, and their "lists may be empty". One table says which element may stand at a place, what stands in it, and which place follows it.
-use Rattle.std.specs.Prelude.{ℕ, ◌+◌, Bool, true, false, cond, List, [], ◌∷◌, eqb, take}
+use Rattle.std.specs.Prelude.{ℕ, ◌+◌, Bool, true, false, cond, List, [], ◌∷◌, eqb, take, Option, None, Some}
 use Rattle.lists.specs.Equal.{same_bytes}
 use Rattle.x509.specs.declared.Place.{Place}
 use Rattle.x509.specs.declared.Place.TheVariants.{Certificate, TbsCertificate, SignatureAlgorithm, SignatureValue, Version, VersionNumber, SerialNumber, Signature, Issuer, Validity, Subject, RelativeDistinguishedName, AttributeTypeAndValue, AttributeType, AttributeValue, CommonNameType, CommonName, SubjectPublicKeyInfo, IssuerUniqueId, SubjectUniqueId, Extensions, ExtensionList, Extension, OtherExtension, ExtnId, Critical, ExtnValue, AltNameId, AltNameCritical, AltNameValue, AltNames, GeneralName, DirectoryName, End}
 use Rattle.x509.specs.declared.Note.{Note}
 use Rattle.x509.specs.declared.Note.TheVariants.{Nothing, KeyInfo, NameValue, Alternatives}
-use Rattle.x509.specs.declared.Inside.TheVariants.{Free, Holds}
-use Rattle.x509.specs.declared.Expected.{Expected}
-use Rattle.x509.specs.declared.Expected.TheVariants.{Fits, Misplaced}
+use Rattle.x509.specs.declared.Field.{Field}
 
 -- X.690's universal tags, with the constructed bit
 abbrev pub boolean : ℕ
@@ -51,29 +49,29 @@ unfoldable pub is_of : List ℕ → List ℕ → Bool
 is_of identifier contents = same_bytes (take 5 contents) identifier
 
 -- an element of any tag, in which anything may stand
-abbrev pub anything : Place → Expected
-anything after = Fits (record { note = Nothing; inside = Free; after = after })
+abbrev pub anything : Place → Option Field
+anything after = Some (record { note = Nothing; inside = None; after = after })
 
 -- an element with the tag that is wanted, in which anything may stand
-unfoldable pub tagged : ℕ → Place → ℕ → Expected
-tagged wanted after tag = cond (eqb tag wanted) (anything after) Misplaced
+unfoldable pub tagged : ℕ → Place → ℕ → Option Field
+tagged wanted after tag = cond (eqb tag wanted) (anything after) None
 
 -- an element with the tag that is wanted, in which fields stand, from the place `inside` on
-unfoldable pub holds : ℕ → Place → Place → ℕ → Expected
-holds wanted inside after tag = cond (eqb tag wanted) (Fits (record { note = Nothing; inside = Holds inside; after = after })) Misplaced
+unfoldable pub holds : ℕ → Place → Place → ℕ → Option Field
+holds wanted inside after tag = cond (eqb tag wanted) (Some (record { note = Nothing; inside = Some inside; after = after })) None
 
 -- the first, or else the second: where an element is optional, what follows it may stand in its place
-unfoldable pub or_else : Expected → Expected → Expected
-or_else (Fits f) other = Fits f
-or_else Misplaced other = other
+unfoldable pub or_else : Option Field → Option Field → Option Field
+or_else (Some f) other = Some f
+or_else None other = other
 
 -- the reader takes note of the element
-unfoldable pub noting : Note → Expected → Expected
-noting note (Fits f) = Fits (record { note = note; inside = f.inside; after = f.after })
-noting note Misplaced = Misplaced
+unfoldable pub noting : Note → Option Field → Option Field
+noting note (Some f) = Some (record { note = note; inside = f.inside; after = f.after })
+noting note None = None
 
 -- GeneralName ::= CHOICE: dNSName [2], rfc822Name [1], uniformResourceIdentifier [6], iPAddress [7] and registeredID [8] are strings
-unfoldable pub string_name : ℕ → Expected
+unfoldable pub string_name : ℕ → Option Field
 string_name tag =
     or_else (tagged (primitive 2) GeneralName tag)
     (or_else (tagged (primitive 1) GeneralName tag)
@@ -81,14 +79,14 @@ string_name tag =
     (or_else (tagged (primitive 7) GeneralName tag) (tagged (primitive 8) GeneralName tag))))
 
 -- otherName [0], x400Address [3], directoryName [4] and ediPartyName [5] are made of elements; the tag of directoryName is explicit, since a Name is a CHOICE
-unfoldable pub built_name : ℕ → Expected
+unfoldable pub built_name : ℕ → Option Field
 built_name tag =
     or_else (tagged (constructed 0) GeneralName tag)
     (or_else (tagged (constructed 3) GeneralName tag)
     (or_else (holds (constructed 4) DirectoryName GeneralName tag) (tagged (constructed 5) GeneralName tag)))
 
 -- the element that may stand at a place, by its tag and its contents
-unfoldable pub expects : Place → ℕ → List ℕ → Expected
+unfoldable pub expects : Place → ℕ → List ℕ → Option Field
 expects Certificate tag contents = holds sequence TbsCertificate End tag
 -- Certificate
 expects TbsCertificate tag contents = holds sequence Version SignatureAlgorithm tag
@@ -119,7 +117,7 @@ expects CommonName tag contents = noting NameValue (anything End)
 -- extensions; after a subjectAltName another one is misplaced
 expects ExtensionList tag contents = holds sequence Extension End tag
 expects Extension tag contents = cond (is_of subject_alt_name contents) (holds sequence AltNameId OtherExtension tag) (holds sequence ExtnId Extension tag)
-expects OtherExtension tag contents = cond (is_of subject_alt_name contents) Misplaced (holds sequence ExtnId OtherExtension tag)
+expects OtherExtension tag contents = cond (is_of subject_alt_name contents) None (holds sequence ExtnId OtherExtension tag)
 -- Extension: critical has a default
 expects ExtnId tag contents = tagged object_identifier Critical tag
 expects Critical tag contents = or_else (tagged boolean ExtnValue tag) (tagged octet_string End tag)
@@ -132,7 +130,7 @@ expects AltNames tag contents = noting Alternatives (holds sequence GeneralName 
 expects GeneralName tag contents = or_else (string_name tag) (built_name tag)
 expects DirectoryName tag contents = tagged sequence End tag
 -- after the last field
-expects End tag contents = Misplaced
+expects End tag contents = None
 
 -- nothing that is required is still to come: what holds the fields may end at that place
 unfoldable pub may_end : Place → Bool

@@ -1,13 +1,12 @@
 // RFC 5280's fields of a certificate, and the walk over them.
 #![tactic(auto)]
 
-ghost use Rattle.std.specs.Prelude.{◌≡◌, cond, ◌≤◌, length};
-ghost use Rattle.x509.specs.Fields.{anything, tagged, holds, or_else, noting, string_name, built_name, expects, may_end, is_of, subject_alt_name, common_name};
-ghost use Rattle.x509.specs.Walk.{noted, met, passing, leaving, walk_run, walk_element};
+ghost use Rattle.std.specs.Prelude.{◌≡◌};
+ghost use Rattle.x509.specs.Fields.{anything, tagged, holds, noting, string_name, built_name, expects, may_end, is_of, subject_alt_name, common_name};
+ghost use Rattle.x509.specs.Walk.{noted, walk_run, walk_element};
 ghost use Rattle.x509.specs.Found.{whole_at, contents_at, name_at, alternatives_at, found_at, fields_of};
 
-use der::{Head, Header, Walk};
-use reader::Step;
+use der::Fault;
 
 // X.690's universal tags, with the constructed bit.
 pub const BOOLEAN: u8 = 1;
@@ -95,7 +94,7 @@ pub enum Place {
 }
 
 // What the reader takes note of.
-#[derive(Clone, Copy)]
+#[derive(Clone, Copy, Debug, PartialEq, Eq)]
 pub enum Note {
     Nothing,
     KeyInfo,
@@ -103,29 +102,16 @@ pub enum Note {
     Alternatives,
 }
 
-// What stands in an element: anything, or fields from a place on.
-#[derive(Clone, Copy)]
-pub enum Inside {
-    Free,
-    Holds(Place),
-}
-
-// An element that may stand at a place.
+// An element that may stand at a place: in it stands anything, or fields from a place on.
 #[derive(Clone, Copy)]
 pub struct Field {
     pub note: Note,
-    pub inside: Inside,
+    pub inside: Option<Place>,
     pub after: Place,
 }
 
-// What a place expects: a field, or not this element.
-#[derive(Clone, Copy)]
-pub enum Expected {
-    Fits(Field),
-    Misplaced,
-}
-
 // The offsets of the elements that are noted, 0 where there is none.
+// Plain numbers for speed: with an Option in each, a leaf that is refused at its last element takes 2.58 times plain C's instructions, promised at most 2.5, and 2.19 so.
 #[derive(Clone, Copy)]
 pub struct Noted {
     pub key: usize,
@@ -133,131 +119,81 @@ pub struct Noted {
     pub alternatives: usize,
 }
 
-// What an element is where the walk meets it: refused; passed, at the place after it; or entered, at the place in it and with the place after it.
+// How far a walk has come: the offset, the place, and what is noted.
 #[derive(Clone, Copy)]
-pub enum Met {
-    Refused,
-    Passed(Place, Noted),
-    Entered(Place, Place, Noted),
-}
-
-// The walk of an element ends at the offset and the place after it, or with a fault at an offset.
-#[derive(Clone, Copy)]
-pub enum ElementWalk {
-    Past(usize, Place, Noted),
-    Fault(usize),
-}
-
-// The walk of a run ends with what is noted, or with a fault at an offset.
-#[derive(Clone, Copy)]
-pub enum RunWalk {
-    Past(Noted),
-    Fault(usize),
+pub struct Progress {
+    pub at: usize,
+    pub place: Place,
+    pub noted: Noted,
 }
 
 // A part of the certificate.
-#[derive(Clone, Copy)]
+#[derive(Clone, Copy, Debug, PartialEq, Eq)]
 pub struct Part {
     pub start: usize,
     pub end: usize,
-}
-
-// The part of a name, or none.
-#[derive(Clone, Copy)]
-pub enum Name {
-    Given(Part),
-    Absent,
 }
 
 // What is found in a certificate.
 #[derive(Clone, Copy)]
 pub struct Found {
     pub key: Part,
-    pub name: Name,
+    pub name: Option<Part>,
     pub alternatives: Part,
 }
 
-// The fields of a certificate are found, or there is a fault at an offset.
-#[derive(Clone, Copy)]
-pub enum Fields {
-    Are(Found),
-    Fault(usize),
-}
-
 // An element of any tag, in which anything may stand.
-fn anything(after: Place) -> Expected
+fn anything(after: Place) -> Option<Field>
     ensures { result ≡ anything after }
 {
-    Expected::Fits(Field {
+    Some(Field {
         note: Note::Nothing,
-        inside: Inside::Free,
+        inside: None,
         after,
     })
 }
 
 // An element with the tag that is wanted, in which anything may stand.
-fn tagged(tag: u8, wanted: u8, after: Place) -> Expected
+#[tactic(auto, using(crate::proofs::Table::table_laws))]
+fn tagged(tag: u8, wanted: u8, after: Place) -> Option<Field>
     ensures { result ≡ tagged wanted after tag }
 {
     if tag != wanted {
-        return Expected::Misplaced;
+        return None;
     }
     anything(after)
 }
 
 // An element with the tag that is wanted, in which fields stand.
-fn holds(tag: u8, wanted: u8, inside: Place, after: Place) -> Expected
+#[tactic(auto, using(crate::proofs::Table::table_laws))]
+fn holds(tag: u8, wanted: u8, inside: Place, after: Place) -> Option<Field>
     ensures { result ≡ holds wanted inside after tag }
 {
     if tag != wanted {
-        return Expected::Misplaced;
+        return None;
     }
-    Expected::Fits(Field {
+    Some(Field {
         note: Note::Nothing,
-        inside: Inside::Holds(inside),
+        inside: Some(inside),
         after,
     })
 }
 
-// The first, or else the other.
-fn or_else(first: Expected, other: Expected) -> Expected
-    ensures { result ≡ or_else first other }
-{
-    match first {
-        Expected::Fits(f) => Expected::Fits(f),
-        Expected::Misplaced => other,
-    }
-}
-
 // The same, and the reader takes note of the element.
-fn noting(note: Note, expected: Expected) -> Expected
+#[tactic(auto, unfolding(crate::specs::Fields::noting))]
+fn noting(note: Note, expected: Option<Field>) -> Option<Field>
     ensures { result ≡ noting note expected }
 {
-    match expected {
-        Expected::Fits(f) => {
-            let inside = f.inside;
-            let after = f.after;
-            Expected::Fits(Field {
-                note,
-                inside,
-                after,
-            })
-        }
-        Expected::Misplaced => Expected::Misplaced,
-    }
-}
-
-// The one or the other.
-fn either(first: bool, one: Expected, other: Expected) -> Expected
-    ensures { result ≡ cond first one other }
-{
-    if first { one } else { other }
+    let field = expected?;
+    Some(Field { note, ..field })
 }
 
 // Whether the contents begin with the object identifier.
+#[tactic(auto, using(crate::proofs::Table::table_laws))]
 fn is_of(identifier: &[u8], contents: &[u8]) -> bool
     ensures { result ≡ is_of identifier.now contents.now }
 {
+    // `==` goes byte by byte: a leaf with 100 further extensions takes 1.05 times plain C's instructions by it, and 0.95 so.
     if contents.len() < 5 {
         return lists::equal(contents, identifier);
     }
@@ -279,47 +215,36 @@ pub fn is_common_name(contents: &[u8]) -> bool
 }
 
 // A GeneralName that is a string.
-fn string_name(tag: u8) -> Expected
+#[tactic(auto, using(crate::proofs::Table::else_laws), unfolding(crate::specs::Fields::string_name))]
+fn string_name(tag: u8) -> Option<Field>
     ensures { result ≡ string_name tag }
 {
-    or_else(
-        tagged(tag, DNS_NAME, Place::GeneralName),
-        or_else(
-            tagged(tag, RFC822_NAME, Place::GeneralName),
-            or_else(
-                tagged(tag, UNIFORM_RESOURCE_IDENTIFIER, Place::GeneralName),
-                or_else(
-                    tagged(tag, IP_ADDRESS, Place::GeneralName),
-                    tagged(tag, REGISTERED_ID, Place::GeneralName),
-                ),
-            ),
-        ),
-    )
+    tagged(tag, DNS_NAME, Place::GeneralName)
+        .or(tagged(tag, RFC822_NAME, Place::GeneralName))
+        .or(tagged(tag, UNIFORM_RESOURCE_IDENTIFIER, Place::GeneralName))
+        .or(tagged(tag, IP_ADDRESS, Place::GeneralName))
+        .or(tagged(tag, REGISTERED_ID, Place::GeneralName))
 }
 
 // A GeneralName that is made of elements.
-fn built_name(tag: u8) -> Expected
+#[tactic(auto, using(crate::proofs::Table::else_laws), unfolding(crate::specs::Fields::built_name))]
+fn built_name(tag: u8) -> Option<Field>
     ensures { result ≡ built_name tag }
 {
-    or_else(
-        tagged(tag, OTHER_NAME, Place::GeneralName),
-        or_else(
-            tagged(tag, X400_ADDRESS, Place::GeneralName),
-            or_else(
-                holds(
-                    tag,
-                    DIRECTORY_NAME,
-                    Place::DirectoryName,
-                    Place::GeneralName,
-                ),
-                tagged(tag, EDI_PARTY_NAME, Place::GeneralName),
-            ),
-        ),
-    )
+    tagged(tag, OTHER_NAME, Place::GeneralName)
+        .or(tagged(tag, X400_ADDRESS, Place::GeneralName))
+        .or(holds(
+            tag,
+            DIRECTORY_NAME,
+            Place::DirectoryName,
+            Place::GeneralName,
+        ))
+        .or(tagged(tag, EDI_PARTY_NAME, Place::GeneralName))
 }
 
 // The element that may stand at a place, by its tag and its contents.
-fn expects(place: Place, tag: u8, contents: &[u8]) -> Expected
+#[tactic(auto, unfolding(crate::specs::Fields::expects, crate::specs::Fields::or_else))]
+fn expects(place: Place, tag: u8, contents: &[u8]) -> Option<Field>
     ensures { result ≡ expects place tag contents.now }
 {
     match place {
@@ -327,10 +252,11 @@ fn expects(place: Place, tag: u8, contents: &[u8]) -> Expected
         Place::TbsCertificate => holds(tag, SEQUENCE, Place::Version, Place::SignatureAlgorithm),
         Place::SignatureAlgorithm => tagged(tag, SEQUENCE, Place::SignatureValue),
         Place::SignatureValue => tagged(tag, BIT_STRING, Place::End),
-        Place::Version => or_else(
-            holds(tag, VERSION, Place::VersionNumber, Place::SerialNumber),
-            tagged(tag, INTEGER, Place::Signature),
-        ),
+        Place::Version => holds(tag, VERSION, Place::VersionNumber, Place::SerialNumber).or(tagged(
+            tag,
+            INTEGER,
+            Place::Signature,
+        )),
         Place::VersionNumber => tagged(tag, INTEGER, Place::End),
         Place::SerialNumber => tagged(tag, INTEGER, Place::Signature),
         Place::Signature => tagged(tag, SEQUENCE, Place::Issuer),
@@ -346,17 +272,15 @@ fn expects(place: Place, tag: u8, contents: &[u8]) -> Expected
             Note::KeyInfo,
             tagged(tag, SEQUENCE, Place::IssuerUniqueId),
         ),
-        Place::IssuerUniqueId => or_else(
-            tagged(tag, ISSUER_UNIQUE_ID, Place::SubjectUniqueId),
-            or_else(
-                tagged(tag, SUBJECT_UNIQUE_ID, Place::Extensions),
-                holds(tag, EXTENSIONS, Place::ExtensionList, Place::End),
-            ),
-        ),
-        Place::SubjectUniqueId => or_else(
-            tagged(tag, SUBJECT_UNIQUE_ID, Place::Extensions),
-            holds(tag, EXTENSIONS, Place::ExtensionList, Place::End),
-        ),
+        Place::IssuerUniqueId => tagged(tag, ISSUER_UNIQUE_ID, Place::SubjectUniqueId)
+            .or(tagged(tag, SUBJECT_UNIQUE_ID, Place::Extensions))
+            .or(holds(tag, EXTENSIONS, Place::ExtensionList, Place::End)),
+        Place::SubjectUniqueId => tagged(tag, SUBJECT_UNIQUE_ID, Place::Extensions).or(holds(
+            tag,
+            EXTENSIONS,
+            Place::ExtensionList,
+            Place::End,
+        )),
         Place::Extensions => holds(tag, EXTENSIONS, Place::ExtensionList, Place::End),
         Place::RelativeDistinguishedName => holds(
             tag,
@@ -364,300 +288,224 @@ fn expects(place: Place, tag: u8, contents: &[u8]) -> Expected
             Place::AttributeTypeAndValue,
             Place::RelativeDistinguishedName,
         ),
-        Place::AttributeTypeAndValue => either(
-            is_common_name(contents),
-            holds(
-                tag,
-                SEQUENCE,
-                Place::CommonNameType,
-                Place::AttributeTypeAndValue,
-            ),
-            holds(
-                tag,
-                SEQUENCE,
-                Place::AttributeType,
-                Place::AttributeTypeAndValue,
-            ),
-        ),
+        Place::AttributeTypeAndValue => {
+            let inside = if is_common_name(contents) {
+                Place::CommonNameType
+            } else {
+                Place::AttributeType
+            };
+            holds(tag, SEQUENCE, inside, Place::AttributeTypeAndValue)
+        }
         Place::AttributeType => tagged(tag, OBJECT_IDENTIFIER, Place::AttributeValue),
         Place::AttributeValue => anything(Place::End),
         Place::CommonNameType => tagged(tag, OBJECT_IDENTIFIER, Place::CommonName),
         Place::CommonName => noting(Note::NameValue, anything(Place::End)),
         Place::ExtensionList => holds(tag, SEQUENCE, Place::Extension, Place::End),
-        Place::Extension => either(
-            is_alt_name(contents),
-            holds(tag, SEQUENCE, Place::AltNameId, Place::OtherExtension),
-            holds(tag, SEQUENCE, Place::ExtnId, Place::Extension),
-        ),
-        Place::OtherExtension => either(
-            is_alt_name(contents),
-            Expected::Misplaced,
-            holds(tag, SEQUENCE, Place::ExtnId, Place::OtherExtension),
-        ),
+        Place::Extension => {
+            if is_alt_name(contents) {
+                holds(tag, SEQUENCE, Place::AltNameId, Place::OtherExtension)
+            } else {
+                holds(tag, SEQUENCE, Place::ExtnId, Place::Extension)
+            }
+        }
+        Place::OtherExtension => {
+            if is_alt_name(contents) {
+                None
+            } else {
+                holds(tag, SEQUENCE, Place::ExtnId, Place::OtherExtension)
+            }
+        }
         Place::ExtnId => tagged(tag, OBJECT_IDENTIFIER, Place::Critical),
-        Place::Critical => or_else(
-            tagged(tag, BOOLEAN, Place::ExtnValue),
-            tagged(tag, OCTET_STRING, Place::End),
-        ),
+        Place::Critical => tagged(tag, BOOLEAN, Place::ExtnValue).or(tagged(
+            tag,
+            OCTET_STRING,
+            Place::End,
+        )),
         Place::ExtnValue => tagged(tag, OCTET_STRING, Place::End),
         Place::AltNameId => tagged(tag, OBJECT_IDENTIFIER, Place::AltNameCritical),
-        Place::AltNameCritical => or_else(
-            tagged(tag, BOOLEAN, Place::AltNameValue),
-            holds(tag, OCTET_STRING, Place::AltNames, Place::End),
-        ),
+        Place::AltNameCritical => tagged(tag, BOOLEAN, Place::AltNameValue).or(holds(
+            tag,
+            OCTET_STRING,
+            Place::AltNames,
+            Place::End,
+        )),
         Place::AltNameValue => holds(tag, OCTET_STRING, Place::AltNames, Place::End),
         Place::AltNames => noting(
             Note::Alternatives,
             holds(tag, SEQUENCE, Place::GeneralName, Place::End),
         ),
-        Place::GeneralName => or_else(string_name(tag), built_name(tag)),
+        Place::GeneralName => string_name(tag).or(built_name(tag)),
         Place::DirectoryName => tagged(tag, SEQUENCE, Place::End),
-        Place::End => Expected::Misplaced,
+        Place::End => None,
     }
 }
 
 // Whether what holds the fields may end at a place.
+#[tactic(auto, unfolding(crate::specs::Fields::may_end))]
 fn may_end(place: Place) -> bool
     ensures { result ≡ may_end place }
 {
-    match place {
-        Place::Certificate => false,
-        Place::TbsCertificate => false,
-        Place::SignatureAlgorithm => false,
-        Place::SignatureValue => false,
-        Place::Version => false,
-        Place::VersionNumber => false,
-        Place::SerialNumber => false,
-        Place::Signature => false,
-        Place::Issuer => false,
-        Place::Validity => false,
-        Place::Subject => false,
-        Place::RelativeDistinguishedName => true,
-        Place::AttributeTypeAndValue => true,
-        Place::AttributeType => false,
-        Place::AttributeValue => false,
-        Place::CommonNameType => false,
-        Place::CommonName => false,
-        Place::SubjectPublicKeyInfo => false,
-        Place::IssuerUniqueId => true,
-        Place::SubjectUniqueId => true,
-        Place::Extensions => true,
-        Place::ExtensionList => false,
-        Place::Extension => true,
-        Place::OtherExtension => true,
-        Place::ExtnId => false,
-        Place::Critical => false,
-        Place::ExtnValue => false,
-        Place::AltNameId => false,
-        Place::AltNameCritical => false,
-        Place::AltNameValue => false,
-        Place::AltNames => false,
-        Place::GeneralName => true,
-        Place::DirectoryName => false,
-        Place::End => true,
-    }
+    matches!(
+        place,
+        Place::RelativeDistinguishedName
+            | Place::AttributeTypeAndValue
+            | Place::IssuerUniqueId
+            | Place::SubjectUniqueId
+            | Place::Extensions
+            | Place::Extension
+            | Place::OtherExtension
+            | Place::GeneralName
+            | Place::End
+    )
 }
 
 // What is noted, with the element at `at`.
+#[tactic(auto, unfolding(crate::specs::Walk::noted))]
 fn note_at(note: Note, at: usize, before: Noted) -> Noted
     ensures { result ≡ noted note at before }
 {
     match note {
         Note::Nothing => before,
-        Note::KeyInfo => Noted {
-            key: at,
-            name: before.name,
-            alternatives: before.alternatives,
-        },
-        Note::NameValue => Noted {
-            key: before.key,
-            name: at,
-            alternatives: before.alternatives,
-        },
+        Note::KeyInfo => Noted { key: at, ..before },
+        Note::NameValue => Noted { name: at, ..before },
         Note::Alternatives => Noted {
-            key: before.key,
-            name: before.name,
             alternatives: at,
+            ..before
         },
     }
 }
 
-// What the element with that header is at that place.
-fn meet(s: &[u8], at: usize, head: Head, place: Place, before: Noted) -> Met
-    requires { (head.start ≤ head.end) × (head.end ≤ length s.now) }
-    ensures { result ≡ met s.now at head place before }
-{
-    let start = head.start;
-    let end = head.end;
-    let expected = expects(place, head.tag, &s[start..end]);
-    let Expected::Fits(field) = expected else {
-        return Met::Refused;
-    };
-    let note = field.note;
-    let after = field.after;
-    let inside = field.inside;
-    let n = note_at(note, at, before);
-    match inside {
-        Inside::Free => Met::Passed(after, n),
-        Inside::Holds(first) => Met::Entered(first, after, n),
-    }
-}
-
-// Past an element in which anything may stand, by the walk of what stands in it.
-fn passing(end: usize, after: Place, n: Noted, walk: Walk) -> ElementWalk
-    ensures { result ≡ passing end after n walk }
-{
-    match walk {
-        Walk::Past(_) => ElementWalk::Past(end, after, n),
-        Walk::Fault(o) => ElementWalk::Fault(o),
-    }
-}
-
-// Past an element in which fields stand, by the walk of their run.
-fn leaving(end: usize, after: Place, walk: RunWalk) -> ElementWalk
-    ensures { result ≡ leaving end after walk }
-{
-    match walk {
-        RunWalk::Past(n) => ElementWalk::Past(end, after, n),
-        RunWalk::Fault(o) => ElementWalk::Fault(o),
-    }
-}
-
-// Walks the element at `at`, and what stands in it; `levels` levels are left.
+// Walks the element where `from` is, and what stands in it; `levels` levels are left.
 #[cycle(element_run)]
-fn element(s: &[u8], at: usize, levels: usize, place: Place, n: Noted) -> ElementWalk
-    ensures { result ≡ walk_element levels place n s.now at }
+#[tactic(auto, using(crate::proofs::Walks::element_laws))]
+fn element(s: &[u8], levels: usize, from: Progress) -> Result<Progress, Fault>
+    ensures { result ≡ walk_element levels from.place from.noted s.now from.at }
 {
+    let fault = Fault { at: from.at };
     if levels == 0 {
-        return ElementWalk::Fault(at);
+        return Err(fault);
     }
-    let step = reader::element_at(s, at);
-    match step {
-        Step::End => ElementWalk::Fault(at),
-        Step::Broken => ElementWalk::Fault(at),
-        Step::Element(head) => {
-            let start = head.start;
-            let end = head.end;
-            let m = meet(s, at, head, place, n);
-            match m {
-                Met::Refused => ElementWalk::Fault(at),
-                Met::Passed(after, o) => {
-                    let w = der::walk_contents(s, head, levels - 1);
-                    passing(end, after, o, w)
-                }
-                Met::Entered(inside, after, o) => {
-                    let w = run(&s[0..end], start, levels - 1, inside, o);
-                    leaving(end, after, w)
-                }
-            }
+    let head = der::header_at(s, from.at).ok_or(fault)?;
+    let contents = &s[head.start..head.end];
+    let field = expects(from.place, head.tag, contents).ok_or(fault)?;
+    let before = note_at(field.note, from.at, from.noted);
+    let noted = match field.inside {
+        None => {
+            der::walk_contents(s, head, levels - 1)?;
+            before
         }
-    }
+        Some(first) => {
+            let inside = Progress {
+                at: head.start,
+                place: first,
+                noted: before,
+            };
+            run(&s[..head.end], levels - 1, inside)?
+        }
+    };
+    Ok(Progress {
+        at: head.end,
+        place: field.after,
+        noted,
+    })
 }
 
-// Walks the elements from `at` to the end of s.
+// Walks the elements from there to the end of s.
 #[cycle(element_run)]
-fn run(s: &[u8], at: usize, levels: usize, place: Place, n: Noted) -> RunWalk
-    ensures { result ≡ walk_run (walk_element levels) place n s.now at }
+#[tactic(auto, using(crate::proofs::Walks::run_laws))]
+fn run(s: &[u8], levels: usize, from: Progress) -> Result<Noted, Fault>
+    ensures { result ≡ walk_run (walk_element levels) from.place from.noted s.now from.at }
 {
-    let mut i = at;
-    let mut p = place;
-    let mut m = n;
-    while i < s.len() {
-        let w = element(s, i, levels, p, m);
-        match w {
-            ElementWalk::Fault(o) => return RunWalk::Fault(o),
-            ElementWalk::Past(next, after, o) => {
-                i = next;
-                p = after;
-                m = o;
-            }
-        }
+    // No iterator: each turn goes on from where the last walk ended, at the place after it, and that end, or its fault, decides.
+    let mut p = from;
+    while p.at < s.len() {
+        p = element(s, levels, p)?;
     }
-    let done = may_end(p);
-    if !done {
-        return RunWalk::Fault(i);
+    if !may_end(p.place) {
+        return Err(Fault { at: p.at });
     }
-    RunWalk::Past(m)
+    Ok(p.noted)
 }
+
+// No bytes.
+const NOTHING: Part = Part { start: 0, end: 0 };
 
 // The element at an offset, with its header.
+#[tactic(auto, using(crate::proofs::Parts::part_laws))]
 fn whole_at(s: &[u8], at: usize) -> Part
     ensures { result ≡ whole_at s.now at }
 {
-    let h = der::header_at(s, at);
-    match h {
-        Header::Opens(head) => Part {
+    match der::header_at(s, at) {
+        Some(head) => Part {
             start: at,
             end: head.end,
         },
-        Header::NoHeader => Part { start: 0, end: 0 },
+        None => NOTHING,
     }
 }
 
 // What stands in the element at an offset.
+#[tactic(auto, using(crate::proofs::Parts::part_laws))]
 fn contents_at(s: &[u8], at: usize) -> Part
     ensures { result ≡ contents_at s.now at }
 {
-    let h = der::header_at(s, at);
-    match h {
-        Header::Opens(head) => Part {
+    match der::header_at(s, at) {
+        Some(head) => Part {
             start: head.start,
             end: head.end,
         },
-        Header::NoHeader => Part { start: 0, end: 0 },
+        None => NOTHING,
     }
 }
 
 // The name whose value was noted at an offset, or none.
-fn name_at(s: &[u8], at: usize) -> Name
+#[tactic(auto, using(crate::proofs::Parts::part_laws))]
+fn name_at(s: &[u8], at: usize) -> Option<Part>
     ensures { result ≡ name_at s.now at }
 {
     if at == 0 {
-        return Name::Absent;
+        return None;
     }
-    let p = contents_at(s, at);
-    Name::Given(p)
+    Some(contents_at(s, at))
 }
 
 // What stands in the GeneralNames that were noted at an offset.
+#[tactic(auto, using(crate::proofs::Parts::part_laws))]
 fn alternatives_at(s: &[u8], at: usize) -> Part
     ensures { result ≡ alternatives_at s.now at }
 {
     if at == 0 {
-        return Part { start: 0, end: 0 };
+        return NOTHING;
     }
     contents_at(s, at)
 }
 
 // What is found, by what was noted.
+#[tactic(auto, using(crate::proofs::Parts::part_laws))]
 pub fn found_at(s: &[u8], n: Noted) -> Found
     ensures { result ≡ found_at s.now n }
 {
-    let key = whole_at(s, n.key);
-    let name = name_at(s, n.name);
-    let alternatives = alternatives_at(s, n.alternatives);
     Found {
-        key,
-        name,
-        alternatives,
+        key: whole_at(s, n.key),
+        name: name_at(s, n.name),
+        alternatives: alternatives_at(s, n.alternatives),
     }
 }
 
 // The fields of the certificate that the whole of s is to be.
-pub fn fields_of(s: &[u8]) -> Fields
+#[tactic(auto, using(crate::proofs::Parts::fields_laws))]
+pub fn fields_of(s: &[u8]) -> Result<Found, Fault>
     ensures { result ≡ fields_of s.now }
 {
-    let none = Noted {
-        key: 0,
-        name: 0,
-        alternatives: 0,
+    let start = Progress {
+        at: 0,
+        place: Place::Certificate,
+        noted: Noted {
+            key: 0,
+            name: 0,
+            alternatives: 0,
+        },
     };
-    let w = run(s, 0, LEVELS, Place::Certificate, none);
-    match w {
-        RunWalk::Past(n) => {
-            let found = found_at(s, n);
-            Fields::Are(found)
-        }
-        RunWalk::Fault(o) => Fields::Fault(o),
-    }
+    let noted = run(s, LEVELS, start)?;
+    Ok(found_at(s, noted))
 }

@@ -1,28 +1,19 @@
 -- `clock::time_left` meets its contract. Assumes nothing.
-use Rattle.clock.proofs.Returns.{left_laws, accepted_most, lifetime_most}
+use mathlib.Core.Path.{sym, ◌∙◌}
+use Rattle.clock.proofs.Laws.{capped_most, reading_most}
+use Rattle.clock.proofs.Returns.{bad_fetch, bad_present, seconds_left}
 use Rattle.clock.proofs.time_left.Goals as goal
-
-pub is_reading-requires : goal.is_reading-requires
-is_reading-requires c = search left_laws
+use Rattle.clock.proofs.time_left.Goals.{then-not-is_reading-via-then-not-is_reading, then-not-is_reading-via-else-not-is_reading+then-not-is_reading-2}
 
 pub returns-then-not-is_reading : goal.returns-then-not-is_reading
-returns-then-not-is_reading c = search left_laws
+returns-then-not-is_reading c = elim c.then-not-is_reading.branch [ then-not-is_reading-via-then-not-is_reading w ↦ bad_fetch _ _ _ (sym c.is_reading.ensures ∙ w.if-not-is_reading.true) | then-not-is_reading-via-else-not-is_reading+then-not-is_reading-2 w ↦ bad_present _ _ _ (sym w.is_reading-else-not-is_reading.ensures ∙ w.if-not-is_reading-2.true) ]
 
-pub is_reading-requires-2 : goal.is_reading-requires-2
-is_reading-requires-2 c = search left_laws
-
-pub returns-then-not-is_reading-2 : goal.returns-then-not-is_reading-2
-returns-then-not-is_reading-2 c = search left_laws
-
-pub capped-counted-requires : goal.capped-counted-requires
-capped-counted-requires c = search left_laws
-
-pub difference-left-requires : goal.difference-left-requires
-difference-left-requires c = (
-  accepted_most _ _ c.is_reading.ensures c.if-not-is_reading.false-raw,
-  lifetime_most _ _ c.capped-counted.ensures,
-  accepted_most _ _ c.is_reading-2.ensures c.if-not-is_reading-2.false-raw,
+pub difference-requires : goal.difference-requires
+difference-requires c = (
+  reading_most _ (sym c.is_reading.ensures ∙ c.if-not-is_reading.false),
+  rw c.capped.ensures (capped_most c.args.lifetime.0),
+  reading_most _ (sym c.is_reading-else-not-is_reading.ensures ∙ c.if-not-is_reading-2.false),
 )
 
 pub returns : goal.returns
-returns c = search left_laws
+returns c = seconds_left _ _ _ (sym c.is_reading.ensures ∙ c.if-not-is_reading.false) (sym c.is_reading-else-not-is_reading.ensures ∙ c.if-not-is_reading-2.false) _ _ c.capped.ensures c.difference.ensures

@@ -1,63 +1,26 @@
 -- `der::long_size` meets its contract. Assumes nothing.
-use Rattle.der.proofs.Sizes.{long_laws, long_begins}
+use Rattle.std.proofs.Common.{rules}
+use mathlib.Core.Path.{refl, ◌∙◌}
+use native.Mathlib.Omega.{arith}
+use Rattle.der.proofs.Sizes.{long_huge, long_small, long_over, long_is, value_turn}
 use Rattle.der.proofs.long_size.Goals as goal
+use Rattle.der.proofs.long_size.Goals.{then-n-lt128-via-then-n-lt128, then-n-lt128-via-else-n-lt128+then-s-end}
 
-pub returns-then-k-eq0 : goal.returns-then-k-eq0
-returns-then-k-eq0 c = search long_laws
+pub returns-in_err-n : goal.returns-in_err-n
+returns-in_err-n c =
+    c.from_residual.ensures ∙ long_huge c.args.s.now c.args.from c.args.k c.if-k-eq0.false c.if-s-from-2.false c.if-s-from-eq0.false _ refl c.loop-b.n c.loop-b.b-index c.loop-b.invariant c.loop-b-test.true (omega (arith, c.in_err-n.ensures)) (omega arith)
 
-pub returns-then-s-from : goal.returns-then-s-from
-returns-then-s-from c = search long_laws
-
-pub overflow_sub-s : goal.overflow_sub-s
-overflow_sub-s c = search long_laws
-
-pub returns-then-s-from-2 : goal.returns-then-s-from-2
-returns-then-s-from-2 c = search long_laws
-
-pub bounds-s-from : goal.bounds-s-from
-bounds-s-from c = search long_laws
-
-pub returns-then-s-from-eq0 : goal.returns-then-s-from-eq0
-returns-then-s-from-eq0 c = search long_laws
-
-pub overflow_add-end : goal.overflow_add-end
-overflow_add-end c = search long_laws
-
-pub loop-i-init : goal.loop-i-init
-loop-i-init c = search long_begins
-
-pub returns-then-n-gt72057594037927935 : goal.returns-then-n-gt72057594037927935
-returns-then-n-gt72057594037927935 c = search long_laws
-
-pub bounds-s-i : goal.bounds-s-i
-bounds-s-i c = search long_laws
-
-pub wide-b-requires : goal.wide-b-requires
-wide-b-requires c = search long_laws
-
-pub overflow_mul-n : goal.overflow_mul-n
-overflow_mul-n c = search long_laws
-
-pub overflow_add-n : goal.overflow_add-n
-overflow_add-n c = search long_laws
-
-pub overflow_add-i : goal.overflow_add-i
-overflow_add-i c = search long_laws
-
-pub loop-i-smaller : goal.loop-i-smaller
-loop-i-smaller c = search long_laws
-
-pub loop-i-preserved : goal.loop-i-preserved
-loop-i-preserved c = search long_laws
+pub loop-b-preserved : goal.loop-b-preserved
+loop-b-preserved c =
+    let turn = value_turn _ c.loop-b.n c.loop-b.b-index c.loop-b.invariant c.loop-b-test.true in
+    search (turn, rules)
 
 pub returns-then-n-lt128 : goal.returns-then-n-lt128
-returns-then-n-lt128 c = search long_laws
-
-pub overflow_sub-s-2 : goal.overflow_sub-s-2
-overflow_sub-s-2 c = search long_laws
-
-pub returns-then-s-end : goal.returns-then-s-end
-returns-then-s-end c = search long_laws
+returns-then-n-lt128 c =
+    elim c.then-n-lt128.branch [
+      | then-n-lt128-via-then-n-lt128 w ↦ long_small c.args.s.now c.args.from c.args.k c.if-k-eq0.false c.if-s-from-2.false c.if-s-from-eq0.false _ refl c.loop-b.n c.loop-b.b-index c.loop-b.invariant c.loop-b-test.false w.if-n-lt128.true
+      | then-n-lt128-via-else-n-lt128+then-s-end w ↦ long_over c.args.s.now c.args.from c.args.k c.if-k-eq0.false c.if-s-from-2.false c.if-s-from-eq0.false _ refl c.loop-b.n c.loop-b.b-index c.loop-b.invariant c.loop-b-test.false w.if-n-lt128.false w.if-s-end.true
+    ]
 
 pub returns : goal.returns
-returns c = search long_laws
+returns c = long_is c.args.s.now c.args.from c.args.k c.if-k-eq0.false c.if-s-from-2.false c.if-s-from-eq0.false _ refl c.loop-b.n c.loop-b.b-index c.loop-b.invariant c.loop-b-test.false c.if-n-lt128.false c.if-s-end.false

@@ -1,27 +1,14 @@
 -- `fields::before_blanks` meets its contract. Assumes nothing.
-use Rattle.lists.proofs.Trim.{trim_laws}
+use Rattle.std.proofs.Common.{arith}
+use Rattle.lists.proofs.Trim.{trim_laws, trim_stop}
+use Rattle.fields.specs.Blank.{blank}
 use Rattle.fields.proofs.before_blanks.Goals as goal
 
-pub loop-e-init : goal.loop-e-init
-loop-e-init c = search trim_laws
+pub returns-then-not-is_blank : goal.returns-then-not-is_blank
+returns-then-not-is_blank c = omega (arith, trim_stop blank c.args.s.now c.loop-i.i c.loop-i.invariant c.loop-i.auto.i c.is_blank.result c.loop-i-test.true c.is_blank.ensures c.if-not-is_blank.true)
 
-pub overflow_sub-last : goal.overflow_sub-last
-overflow_sub-last c = search trim_laws
-
-pub bounds-s-last : goal.bounds-s-last
-bounds-s-last c = search trim_laws
-
-pub is_blank-good-requires : goal.is_blank-good-requires
-is_blank-good-requires c = search trim_laws
-
-pub returns-then-not-good : goal.returns-then-not-good
-returns-then-not-good c = search trim_laws
-
-pub loop-e-smaller : goal.loop-e-smaller
-loop-e-smaller c = search trim_laws
-
-pub loop-e-preserved : goal.loop-e-preserved
-loop-e-preserved c = search trim_laws
+pub loop-i-preserved : goal.loop-i-preserved
+loop-i-preserved c = search trim_laws
 
 pub returns : goal.returns
 returns c = search trim_laws

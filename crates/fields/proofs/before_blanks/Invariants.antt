@@ -1,11 +1,6 @@
-use Prim.Native.Nat.{◌≤◌}
-use mathlib.Core.Path.{◌≡◌}
-use lib.ListN.{length, take}
+use Rattle.std.proofs.Common.{◌≡◌, take}
 use Rattle.fields.specs.Blank.{unblanked}
 use Rattle.fields.proofs.before_blanks.Given as goal
 
-abbrev pub invariant-loop-e : goal.invariant-loop-e
-invariant-loop-e l = (l.e ≤ length l.s) × (unblanked l.s ≡ unblanked (take l.e l.s))
-
-abbrev pub decreases-loop-e : goal.decreases-loop-e
-decreases-loop-e l = l.e
+abbrev pub invariant-loop-i : goal.invariant-loop-i
+invariant-loop-i l = unblanked l.s ≡ unblanked (take l.i l.s)

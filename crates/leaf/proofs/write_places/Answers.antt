@@ -1,48 +1,27 @@
 -- `leaf::write_places` meets its contract. Assumes nothing.
-use Rattle.leaf.proofs.Writing.{writing_laws, within_laws, left_laws, put_laws, same_laws}
+use Rattle.std.proofs.Common.{◌∙◌, arith}
+use Rattle.leaf.specs.Names.{ids_left}
+use Rattle.leaf.specs.Read.{sixteen}
+use Rattle.leaf.proofs.Writing.{item_end, item_within, item_left, item_put, item_same, sixteen_size}
 use Rattle.leaf.proofs.write_places.Goals as goal
 
-pub loop-p-init : goal.loop-p-init
-loop-p-init c = search writing_laws
+pub slice_bounds-copy_from_slice-end : goal.slice_bounds-copy_from_slice-end
+slice_bounds-copy_from_slice-end c =
+    let w = item_within sixteen (ids_left c.args.ids) (ids_left c.loop-id.id-iterator) c.loop-id.n c.loop-id.invariant.0 c.loop-id.invariant.1 c.in-Some.id (ids_left c.next.new.self) c.in-Some.ensures.steps 16 (sixteen_size c.in-Some.id) in
+    let l = c.loop-id.invariant.3 in
+    omega (arith, w, l, c.requires)
 
-pub next_dns_id-id-requires : goal.next_dns_id-id-requires
-next_dns_id-id-requires c = search writing_laws
+pub loop-id-preserved : goal.loop-id-preserved
+loop-id-preserved c =
+    let i = c.loop-id.invariant in
+    let w = item_within sixteen (ids_left c.args.ids) (ids_left c.loop-id.id-iterator) c.loop-id.n i.0 i.1 c.in-Some.id (ids_left c.next.new.self) c.in-Some.ensures.steps 16 (sixteen_size c.in-Some.id) in
+    let l = item_left sixteen (ids_left c.args.ids) (ids_left c.loop-id.id-iterator) c.loop-id.n i.0 i.1 c.in-Some.id (ids_left c.next.new.self) c.in-Some.ensures.steps 16 (sixteen_size c.in-Some.id) in
+    let y = c.copy_from_slice.ensures.after ∙ c.place_of.ensures in (
+      l,
+      w,
+      item_put sixteen (ids_left c.args.ids) (ids_left c.loop-id.id-iterator) c.loop-id.n i.0 i.1 c.in-Some.id (ids_left c.next.new.self) c.in-Some.ensures.steps 16 (sixteen_size c.in-Some.id) c.args.output.now c.loop-id.output c.copy_from_slice.new.self _ (omega arith) y i.2 c.requires,
+      item_same sixteen (ids_left c.args.ids) (ids_left c.loop-id.id-iterator) c.loop-id.n i.0 i.1 c.in-Some.id (ids_left c.next.new.self) c.in-Some.ensures.steps 16 (sixteen_size c.in-Some.id) c.args.output.now c.loop-id.output c.copy_from_slice.new.self _ (omega arith) y i.2 c.requires,
+    )
 
-pub enum_told-1 : goal.enum_told-1
-enum_told-1 c = search writing_laws
-
-pub shape_of-output-in-Absent : goal.shape_of-output-in-Absent
-shape_of-output-in-Absent c = search writing_laws
-
-pub returns-in-Absent : goal.returns-in-Absent
-returns-in-Absent c = search writing_laws
-
-pub enum_known-id : goal.enum_known-id
-enum_known-id c = search writing_laws
-
-pub place_of-place-requires : goal.place_of-place-requires
-place_of-place-requires c = search writing_laws
-
-pub slice_bounds-write_front-end : goal.slice_bounds-write_front-end
-slice_bounds-write_front-end c = search writing_laws
-
-pub slice_bounds-write_front-count : goal.slice_bounds-write_front-count
-slice_bounds-write_front-count c = search writing_laws
-
-pub slice_bounds-write_front-start : goal.slice_bounds-write_front-start
-slice_bounds-write_front-start c = search writing_laws
-
-pub slice_bounds-write_front-end-in-Given : goal.slice_bounds-write_front-end-in-Given
-slice_bounds-write_front-end-in-Given c = search writing_laws
-
-pub write_front-requires : goal.write_front-requires
-write_front-requires c = search writing_laws
-
-pub overflow_add-n : goal.overflow_add-n
-overflow_add-n c = search writing_laws
-
-pub loop-p-smaller : goal.loop-p-smaller
-loop-p-smaller c = search writing_laws
-
-pub loop-p-preserved : goal.loop-p-preserved
-loop-p-preserved c = (search within_laws, search left_laws, search put_laws, search same_laws)
+pub returns : goal.returns
+returns c = item_end sixteen (ids_left c.args.ids) (ids_left c.loop-id.id-iterator) c.loop-id.n c.loop-id.invariant.0 c.loop-id.invariant.1 c.in-None.ensures.steps.0 c.args.output.now c.loop-id.output c.loop-id.invariant.2

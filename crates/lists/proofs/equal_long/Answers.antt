@@ -1,51 +1,20 @@
 -- `lists::equal_long` meets its contract. Assumes nothing.
-use Rattle.lists.proofs.Words.{eight_laws}
+use Rattle.std.proofs.Common.{◌*◌, ◌+◌, arith}
+use Rattle.lists.proofs.Agree.{agree_length}
+use Rattle.lists.proofs.Chunks.{chunk_left, chunk_right, chunks_next, chunks_differ}
 use Rattle.lists.proofs.equal_long.Goals as goal
 
 pub returns-then-a-b : goal.returns-then-a-b
-returns-then-a-b c = search eight_laws
+returns-then-a-b c = search agree_length
 
-pub loop-i-init : goal.loop-i-init
-loop-i-init c = search eight_laws
+pub returns-then-not-equal : goal.returns-then-not-equal
+returns-then-not-equal c =
+    let x = chunk_left c.args.a.now c.args.b.now c.loop-k.k 32 _ _ c.as_chunks.ensures.front c.as_chunks-2.ensures.front c.if-a-b.false (omega arith) in
+    let y = chunk_right c.args.a.now c.args.b.now c.loop-k.k 32 _ _ c.as_chunks.ensures.front c.as_chunks-2.ensures.front c.if-a-b.false (omega arith) in
+    chunks_differ 32 c.args.a.now c.args.b.now (32 * c.loop-k.k) (32 * c.loop-k.k + 32) (omega arith) c.loop-k.invariant _ (rw (x, y) at c.equal.ensures) c.if-not-equal.true
 
-pub overflow_sub-a : goal.overflow_sub-a
-overflow_sub-a c = search eight_laws
-
-pub is_same_thirty_two-same-requires : goal.is_same_thirty_two-same-requires
-is_same_thirty_two-same-requires c = search eight_laws
-
-pub returns-then-not-same : goal.returns-then-not-same
-returns-then-not-same c = search eight_laws
-
-pub overflow_add-i : goal.overflow_add-i
-overflow_add-i c = search eight_laws
-
-pub loop-i-smaller : goal.loop-i-smaller
-loop-i-smaller c = search eight_laws
-
-pub loop-i-preserved : goal.loop-i-preserved
-loop-i-preserved c = search eight_laws
-
-pub slice_bounds-equal-count : goal.slice_bounds-equal-count
-slice_bounds-equal-count c = search eight_laws
-
-pub slice_bounds-equal-start : goal.slice_bounds-equal-start
-slice_bounds-equal-start c = search eight_laws
-
-pub slice_bounds-equal-end : goal.slice_bounds-equal-end
-slice_bounds-equal-end c = search eight_laws
-
-pub slice_bounds-equal-count-2 : goal.slice_bounds-equal-count-2
-slice_bounds-equal-count-2 c = search eight_laws
-
-pub slice_bounds-equal-start-2 : goal.slice_bounds-equal-start-2
-slice_bounds-equal-start-2 c = search eight_laws
-
-pub slice_bounds-equal-end-2 : goal.slice_bounds-equal-end-2
-slice_bounds-equal-end-2 c = search eight_laws
-
-pub equal-requires : goal.equal-requires
-equal-requires c = search eight_laws
-
-pub returns : goal.returns
-returns c = search eight_laws
+pub loop-k-preserved : goal.loop-k-preserved
+loop-k-preserved c =
+    let x = chunk_left c.args.a.now c.args.b.now c.loop-k.k 32 _ _ c.as_chunks.ensures.front c.as_chunks-2.ensures.front c.if-a-b.false (omega arith) in
+    let y = chunk_right c.args.a.now c.args.b.now c.loop-k.k 32 _ _ c.as_chunks.ensures.front c.as_chunks-2.ensures.front c.if-a-b.false (omega arith) in
+    chunks_next 32 c.args.a.now c.args.b.now (32 * c.loop-k.k) (32 * (c.loop-k.k + 1)) (omega arith) c.loop-k.invariant _ (rw (x, y) at c.equal.ensures) c.if-not-equal.false

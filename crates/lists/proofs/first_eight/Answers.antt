@@ -1,12 +1,9 @@
 -- `lists::first_eight` meets its contract. Assumes nothing.
-use Rattle.lists.proofs.Words.{first_laws}
+use Rattle.lists.proofs.Std.{first_is, first_none}
 use Rattle.lists.proofs.first_eight.Goals as goal
 
-pub returns-then-s-lt8 : goal.returns-then-s-lt8
-returns-then-s-lt8 c = search first_laws
+pub returns-in-Some : goal.returns-in-Some
+returns-in-Some c = first_is c.args.s.now c.in-Some.eight.now c.from_le_bytes.result c.in-Some.ensures.cases.enough c.in-Some.ensures.cases.same c.from_le_bytes.ensures c.type_inv.s
 
-pub eight_at-requires : goal.eight_at-requires
-eight_at-requires c = search first_laws
-
-pub returns : goal.returns
-returns c = search first_laws
+pub returns-in-None : goal.returns-in-None
+returns-in-None c = first_none c.args.s.now c.in-None.ensures.cases

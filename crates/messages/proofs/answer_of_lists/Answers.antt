@@ -1,51 +1,21 @@
 -- `messages::answer_of_lists` meets its contract. Assumes nothing.
-use Rattle.messages.proofs.Returns.{lists_laws}
+use Rattle.std.proofs.Common.{arith, sym, ◌∙◌, rules}
+use Rattle.numbers.specs.Numbers.{numbers}
+use Rattle.messages.proofs.Returns.{lists_left, lists_left₂, lists_outside, lists_uneven, lists_hosts}
 use Rattle.messages.proofs.answer_of_lists.Goals as goal
+use Rattle.messages.proofs.answer_of_lists.Goals.{then-not-is_whole-via-then-not-is_whole, then-not-is_whole-via-else-not-is_whole+then-not-is_whole-2, then-not-contains-via-then-not-contains, then-not-contains-via-else-not-contains+then-count}
 
-pub is_whole-preferences_whole-requires : goal.is_whole-preferences_whole-requires
-is_whole-preferences_whole-requires c = search lists_laws
+pub returns-then-not-is_whole : goal.returns-then-not-is_whole
+returns-then-not-is_whole c = elim c.then-not-is_whole.branch [ then-not-is_whole-via-then-not-is_whole w ↦ lists_left _ _ _ (sym c.is_whole.ensures ∙ w.if-not-is_whole.true) c.no_host.ensures | then-not-is_whole-via-else-not-is_whole+then-not-is_whole-2 w ↦ lists_left₂ _ _ _ (sym w.is_whole-else-not-is_whole.ensures ∙ w.if-not-is_whole-2.true) c.no_host.ensures ]
 
-pub no_host-requires : goal.no_host-requires
-no_host-requires c = search lists_laws
-
-pub returns-then-not-preferences_whole : goal.returns-then-not-preferences_whole
-returns-then-not-preferences_whole c = search lists_laws
-
-pub is_whole-verdicts_whole-requires : goal.is_whole-verdicts_whole-requires
-is_whole-verdicts_whole-requires c = search lists_laws
-
-pub no_host-requires-then-not-verdicts_whole : goal.no_host-requires-then-not-verdicts_whole
-no_host-requires-then-not-verdicts_whole c = search lists_laws
-
-pub returns-then-not-verdicts_whole : goal.returns-then-not-verdicts_whole
-returns-then-not-verdicts_whole c = search lists_laws
-
-pub count-count-requires : goal.count-count-requires
-count-count-requires c = search lists_laws
-
-pub no_host-requires-then-count-lt1 : goal.no_host-requires-then-count-lt1
-no_host-requires-then-count-lt1 c = search lists_laws
-
-pub returns-then-count-lt1 : goal.returns-then-count-lt1
-returns-then-count-lt1 c = search lists_laws
-
-pub no_host-requires-then-count-gt32 : goal.no_host-requires-then-count-gt32
-no_host-requires-then-count-gt32 c = search lists_laws
-
-pub returns-then-count-gt32 : goal.returns-then-count-gt32
-returns-then-count-gt32 c = search lists_laws
-
-pub count-given-requires : goal.count-given-requires
-count-given-requires c = search lists_laws
-
-pub no_host-requires-then-given-count : goal.no_host-requires-then-given-count
-no_host-requires-then-given-count c = search lists_laws
-
-pub returns-then-given-count : goal.returns-then-given-count
-returns-then-given-count c = search lists_laws
-
-pub read_hosts-requires : goal.read_hosts-requires
-read_hosts-requires c = search lists_laws
+pub returns-then-not-contains : goal.returns-then-not-contains
+returns-then-not-contains c =
+    let ps = sym c.is_whole.ensures ∙ c.if-not-is_whole.false in
+    let vs = sym c.is_whole-else-not-is_whole.ensures ∙ c.if-not-is_whole-2.false in
+    elim c.then-not-contains.branch [ then-not-contains-via-then-not-contains w ↦ lists_outside _ _ _ ps vs (rw (sym c.count-count.ensures) (grind arith)) c.no_host-then-not-contains.ensures | then-not-contains-via-else-not-contains+then-count w ↦ lists_uneven _ _ _ ps vs (λ e. w.if-count.true (w.count.ensures ∙ e ∙ sym c.count-count.ensures)) c.no_host-then-not-contains.ensures ]
 
 pub returns : goal.returns
-returns c = search lists_laws
+returns c =
+    let ps = sym c.is_whole.ensures ∙ c.if-not-is_whole.false in
+    let vs = sym c.is_whole-else-not-is_whole.ensures ∙ c.if-not-is_whole-2.false in
+    lists_hosts _ _ _ ps vs (c.walk_hosts.ensures (numbers c.args.preferences.now) (numbers c.args.verdicts.now) (record { long = sym c.count-count.ensures; each = λ k r h q. search rules }) (record { long = sym c.count.ensures ∙ c.if-count.false; each = λ k r h q. search rules }))

@@ -1,21 +1,12 @@
 -- `messages::first_host` meets its contract. Assumes nothing.
-use Rattle.messages.proofs.Returns.{first_laws}
+use Rattle.std.proofs.Common.{◌≤◌, arith, rules, take}
+use Rattle.messages.proofs.Returns.{first_outside, first_walk, front_gives}
 use Rattle.messages.proofs.first_host.Goals as goal
 
-pub no_host-requires : goal.no_host-requires
-no_host-requires c = search first_laws
-
-pub returns-then-count-gt32 : goal.returns-then-count-gt32
-returns-then-count-gt32 c = search first_laws
-
-pub no_host-requires-then-count-eq0 : goal.no_host-requires-then-count-eq0
-no_host-requires-then-count-eq0 c = search first_laws
-
-pub returns-then-count-eq0 : goal.returns-then-count-eq0
-returns-then-count-eq0 c = search first_laws
-
-pub walk_hosts-requires : goal.walk_hosts-requires
-walk_hosts-requires c = search first_laws
+pub returns-then-not-contains : goal.returns-then-not-contains
+returns-then-not-contains c = first_outside _ _ _ _ (grind arith) c.no_host.ensures
 
 pub returns : goal.returns
-returns c = search first_laws
+returns c =
+    let few : c.args.count ≤ 32 = grind arith in
+    first_walk _ _ _ _ few (c.walk_hosts.ensures (take c.args.count c.args.preferences) (take c.args.count c.args.verdicts) (front_gives _ _ _ (search rules) (λ k r h q. search rules)) (front_gives _ _ _ (search rules) (λ k r h q. search rules)))

@@ -1,57 +1,29 @@
 -- `messages::walk_hosts` meets its contract. Assumes nothing.
-use Rattle.messages.proofs.Finds.{walk_laws}
+use Rattle.std.proofs.Common.{◌-◌, ◌<◌, ◌≡◌, arith, sym, ◌∙◌}
+use Rattle.messages.proofs.Finds.{walk_start, walk_high, walk_bad, walk_next, walk_end}
 use Rattle.messages.proofs.walk_hosts.Goals as goal
+use Rattle.messages.proofs.walk_hosts.Goals.{then-host-gt65535-via-then-host-gt65535, then-host-gt65535-via-else-host-gt65535+then-not-is_host_verdict}
 
 pub loop-k-init : goal.loop-k-init
-loop-k-init c = search walk_laws
+loop-k-init g c = λ ps vs p v. walk_start ps vs _ p.long v.long
 
-pub overflow_sub-j : goal.overflow_sub-j
-overflow_sub-j c = search walk_laws
-
-pub offset_bounds-preferences-j : goal.offset_bounds-preferences-j
-offset_bounds-preferences-j c = search walk_laws
-
-pub bounds-preferences-j : goal.bounds-preferences-j
-bounds-preferences-j c = search walk_laws
-
-pub wide-p-requires : goal.wide-p-requires
-wide-p-requires c = search walk_laws
-
-pub bounds-verdicts-j : goal.bounds-verdicts-j
-bounds-verdicts-j c = search walk_laws
-
-pub wide-v-requires : goal.wide-v-requires
-wide-v-requires c = search walk_laws
-
-pub is_next_host-next-requires : goal.is_next_host-next-requires
-is_next_host-next-requires c = search walk_laws
-
-pub loop-k-smaller-then-next : goal.loop-k-smaller-then-next
-loop-k-smaller-then-next c = search walk_laws
-
-pub loop-k-preserved-then-next : goal.loop-k-preserved-then-next
-loop-k-preserved-then-next c = (search walk_laws, search walk_laws, search walk_laws, search walk_laws)
-
-pub is_host_verdict-right-requires : goal.is_host_verdict-right-requires
-is_host_verdict-right-requires c = search walk_laws
-
-pub no_host-requires : goal.no_host-requires
-no_host-requires c = search walk_laws
-
-pub returns-then-not-right : goal.returns-then-not-right
-returns-then-not-right c = search walk_laws
-
-pub with_host-decider-requires : goal.with_host-decider-requires
-with_host-decider-requires c = search walk_laws
-
-pub loop-k-smaller : goal.loop-k-smaller
-loop-k-smaller c = search walk_laws
+pub returns-then-host-gt65535 : goal.returns-then-host-gt65535
+returns-then-host-gt65535 g c = λ ps vs p v.
+    let j = c.loop-k.k - 1 in
+    let inside : j < c.args.count = omega arith in
+    let rp = p.each j c.preference.result inside c.preference.ensures in
+    let rv = v.each j c.verdict.result inside c.verdict.ensures in
+    elim c.then-host-gt65535.branch [ then-host-gt65535-via-then-host-gt65535 w ↦ walk_high ps vs _ p.long v.long j c.loop-k.k (omega arith) inside _ _ rp rv w.if-host-gt65535.true _ c.no_host.ensures | then-host-gt65535-via-else-host-gt65535+then-not-is_host_verdict w ↦ walk_bad ps vs _ p.long v.long j c.loop-k.k (omega arith) inside _ _ rp rv (sym w.is_host_verdict.ensures ∙ w.if-not-is_host_verdict.true) _ c.no_host.ensures ]
 
 pub loop-k-preserved : goal.loop-k-preserved
-loop-k-preserved c = search walk_laws
-
-pub decided_by-requires : goal.decided_by-requires
-decided_by-requires c = search walk_laws
+loop-k-preserved g c = λ ps vs p v.
+    let j = c.loop-k.k - 1 in
+    let inside : j < c.args.count = omega arith in
+    let rp = p.each j c.preference.result inside c.preference.ensures in
+    let rv = v.each j c.verdict.result inside c.verdict.ensures in
+    walk_next ps vs _ p.long v.long j c.loop-k.k (omega arith) inside _ _ rp rv _ (c.loop-k.invariant ps vs p v) c.if-host-gt65535.false (sym c.is_host_verdict.ensures ∙ c.if-not-is_host_verdict.false) _ c.with_host-decider.ensures
 
 pub returns : goal.returns
-returns c = search walk_laws
+returns g c = λ ps vs p v.
+    let z : c.loop-k.k ≡ 0 = omega arith in
+    walk_end ps vs _ p.long v.long c.requires.counted.0 c.requires.counted.1 _ (rw z at (c.loop-k.invariant ps vs p v)) _ c.decided_by.ensures

@@ -1,14 +1,7 @@
-use Prim.Native.Nat.{◌≤◌}
-use mathlib.Core.Path.{◌≡◌}
-use mathlib.Core.Bool.{true}
-use lib.ListN.{take, drop}
-use Rattle.lists.specs.Bytes.{all}
-use Rattle.messages.specs.Hosts.{is_preference, is_host_verdict, hosts_from}
-use Rattle.messages.specs.Search.{decider_of}
+use Rattle.std.proofs.Common.{ℕ, List}
+use Rattle.messages.specs.Search.{Gives}
+use Rattle.messages.proofs.Finds.{Walked}
 use Rattle.messages.proofs.walk_hosts.Given as goal
 
 abbrev pub invariant-loop-k : goal.invariant-loop-k
-invariant-loop-k l = (l.k ≤ l.count) × (l.decider ≡ decider_of (hosts_from l.k (drop l.k (take l.count l.preferences)) (drop l.k (take l.count l.verdicts)))) × (all is_preference (drop l.k (take l.count l.preferences)) ≡ true) × (all is_host_verdict (drop l.k (take l.count l.verdicts)) ≡ true)
-
-abbrev pub decreases-loop-k : goal.decreases-loop-k
-decreases-loop-k l = l.k
+invariant-loop-k g l = (ps vs : List ℕ) → Gives l.count (goal.P-post g l.preference) ps → Gives l.count (goal.V-post g l.verdict) vs → Walked ps vs l.k l.decider

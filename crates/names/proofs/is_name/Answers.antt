@@ -1,62 +1,51 @@
 -- `names::is_name` meets its contract. Assumes nothing.
-use native.Mathlib.Omega.{arith}
-use borrow.Author.Rules.{rules}
+use Rattle.std.proofs.Common.{◌≡◌, ◌∙◌, ◌≤◌, length, refl, arith}
 use Rattle.lists.proofs.Laws.{tests}
-use Rattle.names.specs.Name.{is_name}
-use Rattle.names.proofs.Name.{name_laws, name_next}
-use Rattle.names.proofs.Start.{started_laws}
-use borrow.Author.Tests.{not-false}
+use Rattle.lists.proofs.Span.{past_next, past_stop, past_end}
+use Rattle.names.specs.Name.{label_byte, is_name}
+use Rattle.names.proofs.Name.{name_byte, name_next, name_bad, name_last}
 use Rattle.names.proofs.is_name.Goals as goal
+use Rattle.names.proofs.is_name.Goals.{then-s-lt1-via-then-s-lt1, then-s-lt1-via-else-s-lt1+then-s-gt253, then-b-ne46-via-then-b-ne46, then-b-ne46-via-else-b-ne46+then-not-has_label_ends, then-not-is_label_byte+else-b-ne46+else-not-has_label_ends, else-not-is_label_byte}
 
 pub returns-then-s-lt1 : goal.returns-then-s-lt1
 unfolding is_name
-returns-then-s-lt1 c = search tests
+returns-then-s-lt1 c = elim c.then-s-lt1.branch [ then-s-lt1-via-then-s-lt1 w ↦ search tests | then-s-lt1-via-else-s-lt1+then-s-gt253 w ↦ search tests ]
 
-pub returns-then-s-gt253 : goal.returns-then-s-gt253
-unfolding is_name
-returns-then-s-gt253 c = search tests
+pub returns-then-b-ne46 : goal.returns-then-b-ne46
+returns-then-b-ne46 c =
+    let s = c.args.s.now in
+    let v = c.loop-i.invariant in
+    let stops = past_stop label_byte s c.loop-i.i c.loop-i.start v.label c.loop-i-test.true c.is_label_byte.result c.is_label_byte.ensures c.if-not-is_label_byte.true in
+    let w : c.loop-i.start ≤ length s = omega (arith, v.after) in
+    elim c.then-b-ne46.branch [
+      | then-b-ne46-via-then-b-ne46 x ↦ name_byte s c.loop-i.start c.loop-i.i stops w v.labels c.loop-i-test.true x.if-b-ne46.true
+      | then-b-ne46-via-else-b-ne46+then-not-has_label_ends x ↦ name_bad s c.loop-i.start c.loop-i.i stops w x.has_label_ends.result x.has_label_ends.ensures v.labels x.if-not-has_label_ends.true
+    ]
 
-pub loop-start-init : goal.loop-start-init
-loop-start-init c = search name_laws
+pub loop-i-preserved : goal.loop-i-preserved
+loop-i-preserved c =
+    let s = c.args.s.now in
+    let v = c.loop-i.invariant in
+    elim c.if-not-is_label_byte.branch [
+      | then-not-is_label_byte+else-b-ne46+else-not-has_label_ends x ↦
+          let stops = past_stop label_byte s c.loop-i.i c.loop-i.start v.label c.loop-i-test.true c.is_label_byte.result c.is_label_byte.ensures x.if-not-is_label_byte.true in
+          rw x.start-is (record {
+            after = omega arith;
+            label = refl;
+            labels = name_next s c.loop-i.start c.loop-i.i stops (omega (arith, v.after)) x.has_label_ends.result x.has_label_ends.ensures v.labels x.if-not-has_label_ends.false c.loop-i-test.true x.if-b-ne46.false;
+          })
+      | else-not-is_label_byte x ↦
+          rw x.start-is (record {
+            after = omega (arith, v.after);
+            label = past_next label_byte s c.loop-i.i c.loop-i.start v.label c.loop-i-test.true c.is_label_byte.result c.is_label_byte.ensures x.if-not-is_label_byte.false;
+            labels = v.labels;
+          })
+    ]
 
-pub starts_label-started-requires : goal.starts_label-started-requires
-starts_label-started-requires c = search name_laws
-
-pub returns-then-not-started : goal.returns-then-not-started
-returns-then-not-started c = search started_laws
-
-pub label_end-end-requires : goal.label_end-end-requires
-label_end-end-requires c = search started_laws
-
-pub slice_bounds-has_label_ends-count : goal.slice_bounds-has_label_ends-count
-slice_bounds-has_label_ends-count c = search name_laws
-
-pub slice_bounds-has_label_ends-start : goal.slice_bounds-has_label_ends-start
-slice_bounds-has_label_ends-start c = search name_laws
-
-pub slice_bounds-has_label_ends-end : goal.slice_bounds-has_label_ends-end
-slice_bounds-has_label_ends-end c = search name_laws
-
-pub has_label_ends-good-requires : goal.has_label_ends-good-requires
-has_label_ends-good-requires c = search started_laws
-
-pub returns-then-not-good : goal.returns-then-not-good
-returns-then-not-good c = search name_laws
-
-pub returns-then-s-end : goal.returns-then-s-end
-returns-then-s-end c = search name_laws
-
-pub bounds-s-end : goal.bounds-s-end
-bounds-s-end c = search name_laws
-
-pub returns-then-s-end-ne46 : goal.returns-then-s-end-ne46
-returns-then-s-end-ne46 c = search name_laws
-
-pub overflow_add-start : goal.overflow_add-start
-overflow_add-start c = search name_laws
-
-pub loop-start-smaller : goal.loop-start-smaller
-loop-start-smaller c = search name_laws
-
-pub loop-start-preserved : goal.loop-start-preserved
-loop-start-preserved c = (search rules, name_next _ c.loop-start.start c.label_end-end.result c.label_end-end.ensures c.loop-start.invariant.0 c.has_label_ends-good.result c.has_label_ends-good.ensures c.loop-start.invariant.1 (search not-false) (omega arith) c.if-s-end-ne46.false)
+pub returns : goal.returns
+returns c =
+    let s = c.args.s.now in
+    let v = c.loop-i.invariant in
+    let stops = past_end label_byte s c.loop-i.i c.loop-i.start v.label c.loop-i-test.false in
+    let e : length s ≡ c.loop-i.i = omega (arith, c.loop-i.auto.i-end) in
+    name_last s c.loop-i.start (e ∙ stops) (omega (arith, v.after)) v.labels (omega arith) c.if-s-gt253.false c.has_label_ends-2.result c.has_label_ends-2.ensures

@@ -1,13 +1,13 @@
-use Prim.Native.Nat.{◌≤◌, ◌-◌}
-use mathlib.Core.Path.{◌≡◌}
-use lib.ListN.{length, drop}
+use Rattle.std.proofs.Common.{◌≡◌, ◌+◌, ◌≤◌, drop}
 use Rattle.lists.specs.Bytes.{all}
+use Rattle.lists.specs.Span.{span_of}
 use Rattle.lists.specs.Split.{split}
-use Rattle.names.specs.Name.{is_label}
+use Rattle.names.specs.Name.{label_byte, is_label}
 use Rattle.names.proofs.is_name.Given as goal
 
-abbrev pub invariant-loop-start : goal.invariant-loop-start
-invariant-loop-start l = (l.start ≤ length l.s) × (all is_label (split 46 l.s) ≡ all is_label (split 46 (drop l.start l.s)))
-
-abbrev pub decreases-loop-start : goal.decreases-loop-start
-decreases-loop-start l = length l.s - l.start
+abbrev pub invariant-loop-i : goal.invariant-loop-i
+invariant-loop-i l = record {
+  after : l.start ≤ l.i;
+  label : l.start + span_of label_byte (drop l.start l.s) ≡ l.i + span_of label_byte (drop l.i l.s);
+  labels : all is_label (split 46 l.s) ≡ all is_label (split 46 (drop l.start l.s));
+}

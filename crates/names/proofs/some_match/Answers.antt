@@ -1,15 +1,13 @@
 -- `names::some_match` meets its contract. Assumes nothing.
-use Rattle.names.proofs.Match.{some_laws}
+use Rattle.std.proofs.Common.{rules}
+use borrow.Author.Tests.{tests}
+use Rattle.lists.proofs.Items.{any_by_closure}
+use Rattle.numbers.specs.Pieces.{pieces_in}
+use Rattle.names.proofs.Match.{none_covered, some_covered}
 use Rattle.names.proofs.some_match.Goals as goal
 
-pub some_cover-covered-requires : goal.some_cover-covered-requires
-some_cover-covered-requires c = search some_laws
+pub returns-then-any : goal.returns-then-any
+returns-then-any c = some_covered _ c.args.n.now c.any.result (any_by_closure {rest = pieces_in} _ c.any.new.self _ _ c.any.ensures.ran (λ x b q k. search (rules, tests))) c.if-any.true c.is_name.result c.is_name.ensures
 
-pub returns-then-not-covered : goal.returns-then-not-covered
-returns-then-not-covered c = search some_laws
-
-pub is_name-requires : goal.is_name-requires
-is_name-requires c = search some_laws
-
-pub returns : goal.returns
-returns c = search some_laws
+pub returns-else-any : goal.returns-else-any
+returns-else-any c = rw c.if-any.false (none_covered _ c.args.n.now c.any.result (any_by_closure {rest = pieces_in} _ c.any.new.self _ _ c.any.ensures.ran (λ x b q k. search (rules, tests))) c.if-any.false)

@@ -1,39 +1,20 @@
 -- `numbers::fits` meets its contract. Assumes nothing.
-use Rattle.numbers.proofs.Numbers.{fits_laws}
+use Rattle.std.proofs.Common.{◌≡◌, max, arith, sym, ◌∙◌}
+use borrow.Author.Tests.{le-leb}
+use Rattle.numbers.proofs.Numbers.{fits_over, fits_sums, fits_most, fits_end}
 use Rattle.numbers.proofs.fits.Goals as goal
 
-pub is_whole-whole-requires : goal.is_whole-whole-requires
-is_whole-whole-requires c = search fits_laws
+pub returns-then-rest-n : goal.returns-then-rest-n
+returns-then-rest-n c = fits_over _ _ _ _ _ c.loop-word.invariant.2 _ _ c.in-Some.ensures.steps (omega arith)
 
-pub returns-then-not-whole : goal.returns-then-not-whole
-returns-then-not-whole c = search fits_laws
+pub loop-word-preserved : goal.loop-word-preserved
+loop-word-preserved c =
+    let largest : c.max-most.result ≡ max c.loop-word.most c.in-Some.word = grind arith in (
+      tt,
+      tt,
+      rw c.from-n.ensures (fits_sums c.args.list.now c.args.total c.args.bound _ _ c.loop-word.invariant.2 _ _ c.in-Some.ensures.steps (omega arith)),
+      rw largest (fits_most _ _ _ _ _ _ c.loop-word.invariant.3 c.in-Some.ensures.steps),
+    )
 
-pub count-n-requires : goal.count-n-requires
-count-n-requires c = search fits_laws
-
-pub loop-k-init : goal.loop-k-init
-loop-k-init c = search fits_laws
-
-pub number-v-requires : goal.number-v-requires
-number-v-requires c = search fits_laws
-
-pub returns-then-rest-v : goal.returns-then-rest-v
-returns-then-rest-v c = search fits_laws
-
-pub larger-most-requires : goal.larger-most-requires
-larger-most-requires c = search fits_laws
-
-pub overflow_add-k : goal.overflow_add-k
-overflow_add-k c = search fits_laws
-
-pub loop-k-smaller : goal.loop-k-smaller
-loop-k-smaller c = search fits_laws
-
-pub loop-k-preserved : goal.loop-k-preserved
-loop-k-preserved c = (search fits_laws, search fits_laws, search fits_laws)
-
-pub returns-then-bound-most : goal.returns-then-bound-most
-returns-then-bound-most c = search fits_laws
-
-pub returns : goal.returns
-returns c = search fits_laws
+pub returns-then-most-bound : goal.returns-then-most-bound
+returns-then-most-bound c = rw (le-leb _ _ c.if-most-bound.true) at (fits_end c.args.list.now c.args.total c.args.bound _ _ c.loop-word.invariant.2 c.in-None.ensures.steps.0 _ c.loop-word.invariant.3 (sym c.is_whole.ensures ∙ c.if-not-is_whole.false))

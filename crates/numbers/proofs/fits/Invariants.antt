@@ -1,14 +1,10 @@
-use Prim.Native.Nat.{◌≤◌, ◌+◌, ◌-◌}
-use mathlib.Core.Path.{◌≡◌}
-use mathlib.Core.Bool.{◌&&◌}
-use lib.Dec.{leb}
-use lib.ListN.{drop}
+use Rattle.std.proofs.Common.{◌≡◌, ◌+◌, ◌&&◌, leb}
 use Rattle.lists.specs.Bytes.{all}
-use Rattle.numbers.specs.Numbers.{numbers, sum, at_most}
+use Rattle.numbers.specs.Numbers.{numbers, sum, at_most, words_in}
 use Rattle.numbers.proofs.fits.Given as goal
 
-abbrev pub invariant-loop-k : goal.invariant-loop-k
-invariant-loop-k l = (l.k ≤ l.n) × (l.rest + sum (numbers l.list) ≡ l.total + sum (drop l.k (numbers l.list))) × (all (at_most l.bound) (numbers l.list) ≡ (leb l.most l.bound && all (at_most l.bound) (drop l.k (numbers l.list))))
-
-abbrev pub decreases-loop-k : goal.decreases-loop-k
-decreases-loop-k l = l.n - l.k
+abbrev pub invariant-loop-word : goal.invariant-loop-word
+invariant-loop-word l =
+    (goal.iterator-loop-word).can_next l.word-iterator × (goal.iterator-loop-word).is_finite l.word-iterator
+    × (l.rest + sum (numbers l.list) ≡ l.total + sum (words_in l.word-iterator))
+    × (all (at_most l.bound) (numbers l.list) ≡ (leb l.most l.bound && all (at_most l.bound) (words_in l.word-iterator)))

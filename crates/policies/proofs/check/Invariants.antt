@@ -1,6 +1,4 @@
-use Prim.Native.Nat.{◌≤◌, ◌+◌, ◌-◌}
-use mathlib.Core.Path.{◌≡◌}
-use lib.ListN.{length, drop}
+use Rattle.std.proofs.Common.{◌≡◌, ◌≤◌, ◌+◌, ◌-◌, length, drop}
 use Rattle.policies.specs.Lines.{lines, line_start}
 use Rattle.policies.specs.Reader.{checked}
 use Rattle.policies.proofs.Same.{run}

@@ -1,41 +1,21 @@
 -- `publish::write_patterns` meets its contract. Assumes nothing.
-use Rattle.publish.proofs.PolicyReturns.{mx_laws, mx_same, mx_places, mx_next, mx_end, mx_written}
-use Rattle.numbers.proofs.Pieces.{end_within}
-use borrow.Author.Rules.{rules}
+use Rattle.publish.proofs.PolicyReturns.{mx_room, mx_same, mx_places, mx_next, mx_end, mx_written}
 use Rattle.publish.proofs.write_patterns.Goals as goal
 
-pub count-n-requires : goal.count-n-requires
-count-n-requires c = search mx_laws
-
-pub loop-i-init : goal.loop-i-init
-loop-i-init c = search mx_laws
-
-pub end_at-e-requires : goal.end_at-e-requires
-end_at-e-requires c = search mx_laws
-
-pub slice_bounds-write_mx-count : goal.slice_bounds-write_mx-count
-slice_bounds-write_mx-count c = search mx_laws
-
-pub slice_bounds-write_mx-start : goal.slice_bounds-write_mx-start
-slice_bounds-write_mx-start c = search mx_laws
-
-pub slice_bounds-write_mx-end : goal.slice_bounds-write_mx-end
-slice_bounds-write_mx-end c = search mx_laws
-
 pub write_mx-to-requires : goal.write_mx-to-requires
-write_mx-to-requires c = search mx_laws
+write_mx-to-requires c = mx_room _ _ _ _ _ _ c.loop-pattern.invariant.3 c.loop-pattern.invariant.4 _ _ c.in-Some.ensures.steps c.requires c.loop-pattern.invariant.2
 
-pub overflow_add-i : goal.overflow_add-i
-overflow_add-i c = search mx_laws
+pub loop-pattern-preserved : goal.loop-pattern-preserved
+loop-pattern-preserved c = (
+  tt,
+  tt,
+  mx_same _ _ _ _ _ _ c.loop-pattern.invariant.3 c.loop-pattern.invariant.4 _ _ c.in-Some.ensures.steps c.requires c.loop-pattern.invariant.2 _ c.write_mx-to.ensures.value _ c.write_mx-to.ensures.output_after,
+  mx_places _ _ _ _ _ _ c.loop-pattern.invariant.3 c.loop-pattern.invariant.4 _ _ c.in-Some.ensures.steps c.requires c.loop-pattern.invariant.2 _ c.write_mx-to.ensures.value,
+  mx_next _ _ _ _ _ _ c.loop-pattern.invariant.3 c.loop-pattern.invariant.4 _ _ c.in-Some.ensures.steps c.requires c.loop-pattern.invariant.2 _ c.write_mx-to.ensures.value _ c.write_mx-to.ensures.output_after,
+)
 
-pub loop-i-smaller : goal.loop-i-smaller
-loop-i-smaller c = search mx_laws
+pub returns-clause-value : goal.returns-clause-value
+returns-clause-value c = mx_end _ _ _ _ _ _ c.loop-pattern.invariant.3 c.loop-pattern.invariant.4 c.in-None.ensures.steps.0
 
-pub loop-i-preserved : goal.loop-i-preserved
-loop-i-preserved c = (search rules, search end_within, search mx_same, search mx_places, search mx_next)
-
-pub shape_of-output : goal.shape_of-output
-shape_of-output c = search mx_laws
-
-pub returns : goal.returns
-returns c = record { value = search mx_end; output_after = search mx_written }
+pub returns-clause-output_after : goal.returns-clause-output_after
+returns-clause-output_after c = mx_written _ _ _ _ _ _ c.loop-pattern.invariant.3 c.loop-pattern.invariant.4 c.in-None.ensures.steps.0

@@ -1,14 +1,14 @@
-use Prim.Native.Nat.{◌≤◌, ◌+◌, ◌-◌}
+use Prim.Native.Nat.{◌+◌}
 use mathlib.Core.Path.{◌≡◌}
-use lib.ListN.{length, drop}
-use Rattle.numbers.specs.Numbers.{numbers}
-use Rattle.numbers.specs.Pieces.{cut}
+use lib.ListN.{length}
 use Rattle.writing.specs.Over.{over}
 use Rattle.publish.specs.Texts.{mx_lines}
+use Rattle.publish.specs.Patterns.{patterns_in}
 use Rattle.publish.proofs.write_patterns.Given as goal
 
-abbrev pub invariant-loop-i : goal.invariant-loop-i
-invariant-loop-i l = (l.i ≤ l.n) × (l.from ≤ length l.patterns) × (length l.output ≡ length l.initial.output) × (l.to + length (mx_lines (cut (drop l.from l.patterns) (drop l.i (numbers l.lengths)))) ≡ l.at + length (mx_lines (cut l.patterns (numbers l.lengths)))) × (over l.at (mx_lines (cut l.patterns (numbers l.lengths))) l.initial.output ≡ over l.to (mx_lines (cut (drop l.from l.patterns) (drop l.i (numbers l.lengths)))) l.output)
-
-abbrev pub decreases-loop-i : goal.decreases-loop-i
-decreases-loop-i l = l.n - l.i
+abbrev pub invariant-loop-pattern : goal.invariant-loop-pattern
+invariant-loop-pattern l =
+    (goal.iterator-loop-pattern).can_next l.pattern-iterator × (goal.iterator-loop-pattern).is_finite l.pattern-iterator
+    × (length l.output ≡ length l.initial.output)
+    × (l.to + length (mx_lines (patterns_in l.pattern-iterator)) ≡ l.at + length (mx_lines (patterns_in l.fn.patterns)))
+    × (over l.at (mx_lines (patterns_in l.fn.patterns)) l.initial.output ≡ over l.to (mx_lines (patterns_in l.pattern-iterator)) l.output)

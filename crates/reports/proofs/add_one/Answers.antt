@@ -1,24 +1,11 @@
 -- `reports::add_one` meets its contract. Assumes nothing.
-use Rattle.reports.proofs.CountReturns.{add_laws}
+use Rattle.std.proofs.Common.{arith, ap, ◌+◌}
+use Rattle.reports.proofs.Counts.{count_most}
+use Rattle.reports.proofs.CountReturns.{one_more_lem}
 use Rattle.reports.proofs.add_one.Goals as goal
 
-pub next_count-n-requires : goal.next_count-n-requires
-next_count-n-requires c = search add_laws
-
-pub eight_bytes-bytes-requires : goal.eight_bytes-bytes-requires
-eight_bytes-bytes-requires c = search add_laws
-
-pub slice_bounds-put-end : goal.slice_bounds-put-end
-slice_bounds-put-end c = search add_laws
-
-pub overflow_mul-k : goal.overflow_mul-k
-overflow_mul-k c = search add_laws
-
-pub put-requires : goal.put-requires
-put-requires c = search add_laws
-
-pub shape_of-counts : goal.shape_of-counts
-shape_of-counts c = search add_laws
+pub overflow_add-n : goal.overflow_add-n
+overflow_add-n c = record { fits = omega (arith, count_most c.args.counts.now c.args.k c.requires.0, c.requires.2, c.count_at-n.ensures) }
 
 pub returns : goal.returns
-returns c = search add_laws
+returns c = one_more_lem _ _ _ _ _ (ap (λ n. n + 1) c.count_at-n.ensures) c.eight_bytes.ensures c.put.ensures

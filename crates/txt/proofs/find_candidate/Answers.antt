@@ -1,78 +1,24 @@
 -- `txt::find_candidate` meets its contract. Assumes nothing.
-use Rattle.txt.proofs.Candidates.{found_laws}
+use Rattle.std.proofs.Common.{◌∙◌, sym, refl}
+use Rattle.txt.specs.Steps.{CandidateIs}
+use Rattle.txt.proofs.Candidates.{wire_over, wire_bad, wire_next, seen_other, seen_one}
 use Rattle.txt.proofs.find_candidate.Goals as goal
+use Rattle.txt.proofs.find_candidate.Goals.{then-is_candidate, else-is_candidate}
 
-pub count-n-requires : goal.count-n-requires
-count-n-requires c = search found_laws
+pub returns-then-rest-n : goal.returns-then-rest-n
+unfolding CandidateIs
+returns-then-rest-n c = c.loop-n.invariant.2 ∙ wire_over _ _ c.in-Some.n _ c.in-Some.ensures.steps c.if-rest-n.true
 
-pub number-v-requires : goal.number-v-requires
-number-v-requires c = search found_laws
+pub returns-then-not-is_rdata : goal.returns-then-not-is_rdata
+unfolding CandidateIs
+returns-then-not-is_rdata c = c.loop-n.invariant.2 ∙ wire_bad _ _ c.in-Some.n _ c.in-Some.ensures.steps c.if-rest-n.false (sym c.is_rdata.ensures ∙ c.if-not-is_rdata.true)
 
-pub loop-k-init : goal.loop-k-init
-loop-k-init c = search found_laws
-
-pub overflow_sub-rdatas : goal.overflow_sub-rdatas
-overflow_sub-rdatas c = search found_laws
-
-pub returns-then-rdatas-at : goal.returns-then-rdatas-at
-returns-then-rdatas-at c = search found_laws
-
-pub overflow_add-e : goal.overflow_add-e
-overflow_add-e c = search found_laws
-
-pub slice_bounds-kind_of-count : goal.slice_bounds-kind_of-count
-slice_bounds-kind_of-count c = search found_laws
-
-pub slice_bounds-kind_of-start : goal.slice_bounds-kind_of-start
-slice_bounds-kind_of-start c = search found_laws
-
-pub slice_bounds-kind_of-end : goal.slice_bounds-kind_of-end
-slice_bounds-kind_of-end c = search found_laws
-
-pub kind_of-kind-requires : goal.kind_of-kind-requires
-kind_of-kind-requires c = search found_laws
-
-pub enum_told-1 : goal.enum_told-1
-enum_told-1 c = search found_laws
-
-pub returns-in-Broken : goal.returns-in-Broken
-returns-in-Broken c = search found_laws
-
-pub enum_told-in-Other : goal.enum_told-in-Other
-enum_told-in-Other c = search found_laws
-
-pub overflow_add-k : goal.overflow_add-k
-overflow_add-k c = search found_laws
-
-pub number-v-requires-in-Other : goal.number-v-requires-in-Other
-number-v-requires-in-Other c = search found_laws
-
-pub loop-k-smaller-in-Other : goal.loop-k-smaller-in-Other
-loop-k-smaller-in-Other c = search found_laws
-
-pub loop-k-preserved-in-Other : goal.loop-k-preserved-in-Other
-loop-k-preserved-in-Other c = search found_laws
-
-pub enum_told-in-Candidate : goal.enum_told-in-Candidate
-enum_told-in-Candidate c = search found_laws
-
-pub one_more-found-requires : goal.one_more-found-requires
-one_more-found-requires c = search found_laws
-
-pub overflow_add-k-in-Candidate : goal.overflow_add-k-in-Candidate
-overflow_add-k-in-Candidate c = search found_laws
-
-pub number-v-requires-in-Candidate : goal.number-v-requires-in-Candidate
-number-v-requires-in-Candidate c = search found_laws
-
-pub loop-k-smaller : goal.loop-k-smaller
-loop-k-smaller c = search found_laws
-
-pub loop-k-preserved : goal.loop-k-preserved
-loop-k-preserved c = search found_laws
-
-pub returns-then-at-rdatas : goal.returns-then-at-rdatas
-returns-then-at-rdatas c = search found_laws
-
-pub returns : goal.returns
-returns c = search found_laws
+pub loop-n-preserved : goal.loop-n-preserved
+loop-n-preserved c =
+    let v = c.loop-n.invariant in
+    let e = c.in-Some.ensures.steps in
+    let sound = v.2 ∙ wire_next _ _ c.in-Some.n _ e c.if-rest-n.false (sym c.is_rdata.ensures ∙ c.if-not-is_rdata.false) in
+    elim c.if-is_candidate.branch [
+      | then-is_candidate w ↦ rw (w.found-is, w.with_one-found.ensures) (tt, tt, sound, seen_one _ _ c.in-Some.n _ e c.if-rest-n.false _ c.loop-n.found _ refl (sym c.is_candidate.ensures ∙ w.if-is_candidate.true) v.3)
+      | else-is_candidate w ↦ rw w.found-is (tt, tt, sound, seen_other _ _ c.in-Some.n _ e c.if-rest-n.false _ c.loop-n.found (sym c.is_candidate.ensures ∙ w.if-is_candidate.false) v.3)
+    ]

@@ -1,12 +1,10 @@
-use Prim.Native.Nat.{◌≤◌, ◌-◌}
-use mathlib.Core.Path.{◌≡◌}
-use lib.ListN.{length, get_or}
-use Rattle.numbers.specs.Numbers.{numbers}
-use Rattle.txt.specs.Steps.{SeenIs, wire_from, candidates_from}
+use Rattle.std.proofs.Common.{◌≡◌}
+use Rattle.numbers.specs.Numbers.{numbers, words_in}
+use Rattle.txt.specs.Steps.{SeenIs, wire_left, candidates_left}
 use Rattle.txt.proofs.find_candidate.Given as goal
 
-abbrev pub invariant-loop-k : goal.invariant-loop-k
-invariant-loop-k l = (l.at ≤ length l.rdatas) × (l.v ≡ get_or (numbers l.lengths) l.k 0) × (wire_from l.rdatas l.lengths 0 0 ≡ wire_from l.rdatas l.lengths l.at l.k) × (SeenIs l.rdatas (candidates_from l.rdatas l.lengths 0 0) (candidates_from l.rdatas l.lengths l.at l.k) l.found)
-
-abbrev pub decreases-loop-k : goal.decreases-loop-k
-decreases-loop-k l = l.n - l.k
+abbrev pub invariant-loop-n : goal.invariant-loop-n
+invariant-loop-n l =
+    (goal.iterator-loop-n).can_next l.n-iterator × (goal.iterator-loop-n).is_finite l.n-iterator
+    × (wire_left l.rdatas (numbers l.fn.lengths) ≡ wire_left l.rest (words_in l.n-iterator))
+    × SeenIs (candidates_left l.rdatas (numbers l.fn.lengths)) (candidates_left l.rest (words_in l.n-iterator)) l.found

@@ -1,11 +1,9 @@
-use Prim.Native.Nat.{◌≤◌, ◌-◌}
-use mathlib.Core.Path.{◌≡◌}
-use lib.ListN.{length, drop}
-use Rattle.txt.specs.Rdata.{is_rdata, strings_fit}
+use Rattle.std.proofs.Common.{◌≡◌, length}
+use Rattle.txt.specs.Rdata.{strings_fit}
 use Rattle.txt.proofs.is_rdata.Given as goal
 
-abbrev pub invariant-loop-i : goal.invariant-loop-i
-invariant-loop-i l = (l.i ≤ length l.s) × (is_rdata l.s ≡ strings_fit (drop l.i l.s))
+abbrev pub invariant-loop-length : goal.invariant-loop-length
+invariant-loop-length l = strings_fit l.s ≡ strings_fit l.rest
 
-abbrev pub decreases-loop-i : goal.decreases-loop-i
-decreases-loop-i l = length l.s - l.i
+abbrev pub decreases-loop-length : goal.decreases-loop-length
+decreases-loop-length l = length l.rest

@@ -1,12 +1,13 @@
-use Prim.Native.Nat.{◌≤◌, ◌-◌}
-use mathlib.Core.Path.{◌≡◌}
-use mathlib.Core.List.{◌++◌}
-use lib.ListN.{length, take, drop}
+use Rattle.std.proofs.Common.{◌≡◌, ◌≤◌, ◌++◌, length, take, drop}
+use mathlib.Core.List.{flatten}
 use Rattle.txt.specs.Rdata.{joined}
+use Rattle.txt.specs.Steps.{strings_left}
 use Rattle.txt.proofs.join.Given as goal
 
-abbrev pub invariant-loop-i : goal.invariant-loop-i
-invariant-loop-i l = (l.i ≤ length l.s) × (l.n ≤ l.i) × (l.n ≤ length (joined l.s)) × (drop l.n (joined l.s) ≡ joined (drop l.i l.s)) × (l.output ≡ take l.n (joined l.s) ++ drop l.n l.initial.output) × (length l.output ≡ length l.initial.output)
-
-abbrev pub decreases-loop-i : goal.decreases-loop-i
-decreases-loop-i l = length l.s - l.i
+abbrev pub invariant-loop-string : goal.invariant-loop-string
+invariant-loop-string l =
+    (goal.iterator-loop-string).can_next l.string-iterator × (goal.iterator-loop-string).is_finite l.string-iterator
+    × (drop l.n (joined l.s) ≡ flatten (strings_left l.string-iterator))
+    × (l.n ≤ length (joined l.s))
+    × (l.output ≡ take l.n (joined l.s) ++ drop l.n l.fn.output)
+    × (length (joined l.s) ≤ length l.fn.output)

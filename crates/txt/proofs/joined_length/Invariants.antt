@@ -1,11 +1,10 @@
-use Prim.Native.Nat.{◌≤◌, ◌+◌, ◌-◌}
-use mathlib.Core.Path.{◌≡◌}
-use lib.ListN.{length, drop}
+use Rattle.std.proofs.Common.{◌≡◌, ◌+◌, length}
+use mathlib.Core.List.{flatten}
 use Rattle.txt.specs.Rdata.{joined}
+use Rattle.txt.specs.Steps.{strings_left}
 use Rattle.txt.proofs.joined_length.Given as goal
 
-abbrev pub invariant-loop-i : goal.invariant-loop-i
-invariant-loop-i l = (l.i ≤ length l.s) × (l.n ≤ l.i) × (l.n + length (joined (drop l.i l.s)) ≡ length (joined l.s))
-
-abbrev pub decreases-loop-i : goal.decreases-loop-i
-decreases-loop-i l = length l.s - l.i
+abbrev pub invariant-loop-string : goal.invariant-loop-string
+invariant-loop-string l =
+    (goal.iterator-loop-string).can_next l.string-iterator × (goal.iterator-loop-string).is_finite l.string-iterator
+    × (l.n + length (flatten (strings_left l.string-iterator)) ≡ length (joined l.s))

@@ -1,11 +1,9 @@
-use Prim.Native.Nat.{◌-◌}
-use mathlib.Core.Path.{◌≡◌}
-use lib.ListN.{length, drop}
+use Rattle.std.proofs.Common.{◌≡◌, ◌-◌, length, drop}
 use Rattle.txt.specs.Grammar.{fields_of, id_among, id_field}
 use Rattle.txt.proofs.read_record.Given as goal
 
-abbrev pub invariant-loop-a : goal.invariant-loop-a
-invariant-loop-a l = id_field l.t ≡ id_among (fields_of (drop l.at l.t))
+abbrev pub invariant-loop-field : goal.invariant-loop-field
+invariant-loop-field l = id_field l.t ≡ id_among (fields_of (drop l.at l.t))
 
-abbrev pub decreases-loop-a : goal.decreases-loop-a
-decreases-loop-a l = length l.t - l.at
+abbrev pub decreases-loop-field : goal.decreases-loop-field
+decreases-loop-field l = length l.t - l.at

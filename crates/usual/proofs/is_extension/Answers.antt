@@ -1,30 +1,9 @@
 -- `usual::is_extension` meets its contract. Assumes nothing.
-use Rattle.usual.proofs.Shape.{sight_laws}
+use mathlib.Core.Path.{sym, ◌∙◌}
+use Rattle.usual.proofs.Shape.{some_is, extension_long}
 use Rattle.usual.proofs.is_extension.Goals as goal
 
-pub end_of-i-requires : goal.end_of-i-requires
-end_of-i-requires c = search sight_laws
-
-pub returns-then-i-eq0 : goal.returns-then-i-eq0
-returns-then-i-eq0 c = search sight_laws
-
-pub end_of-j-requires : goal.end_of-j-requires
-end_of-j-requires c = search sight_laws
-
-pub returns-then-j-ne0 : goal.returns-then-j-ne0
-returns-then-j-ne0 c = search sight_laws
-
-pub end_of-k-requires : goal.end_of-k-requires
-end_of-k-requires c = search sight_laws
-
-pub returns-then-k-eq0 : goal.returns-then-k-eq0
-returns-then-k-eq0 c = search sight_laws
-
-pub end_of-e-requires : goal.end_of-e-requires
-end_of-e-requires c = search sight_laws
-
-pub returns-then-e-eq0 : goal.returns-then-e-eq0
-returns-then-e-eq0 c = search sight_laws
-
 pub returns : goal.returns
-returns c = search sight_laws
+returns c = λ e.
+    some_is c.alone-2.result (sym c.is_some-2.ensures ∙ e)
+    (λ h o. extension_long c.args.s.now c.args.at c.in-Some.i _ c.end_of.ensures c.in-Some.is c.in-Some-end_of.j _ c.end_of-2.ensures c.in-Some-end_of.is _ c.alone-2.ensures h o)

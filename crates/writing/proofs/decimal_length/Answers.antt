@@ -1,18 +1,9 @@
 -- `writing::decimal_length` meets its contract. Assumes nothing.
-use Rattle.writing.proofs.Decimal.{length_laws}
+use Rattle.std.proofs.Common.{◌≡◌, max, arith}
+use Rattle.writing.proofs.Decimal.{length_is}
 use Rattle.writing.proofs.decimal_length.Goals as goal
 
-pub loop-tens-init : goal.loop-tens-init
-loop-tens-init c = search length_laws
-
-pub overflow_add-count : goal.overflow_add-count
-overflow_add-count c = search length_laws
-
-pub loop-tens-smaller : goal.loop-tens-smaller
-loop-tens-smaller c = search length_laws
-
-pub loop-tens-preserved : goal.loop-tens-preserved
-loop-tens-preserved c = search length_laws
-
 pub returns : goal.returns
-returns c = search length_laws
+returns c =
+    let largest : c.max.result ≡ max c.args.n 1 = grind arith in
+    length_is c.args.n c.max.result c.ilog10.result largest c.ilog10.ensures.power_le c.ilog10.ensures.next_power_gt

@@ -1,48 +1,30 @@
 -- `writing::put_decimal` meets its contract. Assumes nothing.
-use Rattle.writing.proofs.Decimal.{digits_laws}
+use Rattle.std.proofs.Common.{◌≤◌, arith, refl, ◌∙◌}
+use Rattle.writing.proofs.Decimal.{decimal_some, decimal_short, single, several, left_next, digits_next, digits_same, digits_end}
 use Rattle.writing.proofs.put_decimal.Goals as goal
 
-pub decimal_length-size-requires : goal.decimal_length-size-requires
-decimal_length-size-requires c = search digits_laws
+pub returns-then-saturating_sub-size-clause-output_after : goal.returns-then-saturating_sub-size-clause-output_after
+returns-then-saturating_sub-size-clause-output_after c = decimal_short c.args.n c.args.at c.args.output.now (omega arith)
 
-pub returns-then-output-at : goal.returns-then-output-at
-returns-then-output-at c = record { value = search digits_laws; output_after = search digits_laws }
+pub loop-k-init : goal.loop-k-init
+loop-k-init c = record { fits = omega (arith, decimal_some c.args.n); sized = c.decimal_length-size.ensures; same = refl; written = refl }
 
-pub overflow_sub-output : goal.overflow_sub-output
-overflow_sub-output c = search digits_laws
+pub loop-k-preserved : goal.loop-k-preserved
+loop-k-preserved c =
+    let i = c.loop-k.invariant in
+    let ten : 10 ≤ c.loop-k.rest = several c.loop-k.rest (omega arith) in
+    let same = digits_same c.args.n c.args.at c.loop-k.rest c.loop-k.k c.args.output.now c.loop-k.output i.written i.fits i.sized ten _ c.digit_of.ensures _ c.put_byte.ensures in
+    record {
+      fits = omega (arith, same, i.fits);
+      sized = left_next c.args.n c.args.at c.loop-k.rest c.loop-k.k c.args.output.now c.loop-k.output i.written i.fits i.sized ten;
+      same = same ∙ i.same;
+      written = digits_next c.args.n c.args.at c.loop-k.rest c.loop-k.k c.args.output.now c.loop-k.output i.written i.fits i.sized ten _ c.digit_of.ensures _ c.put_byte.ensures;
+    }
 
-pub returns-then-output-at-2 : goal.returns-then-output-at-2
-returns-then-output-at-2 c = record { value = search digits_laws; output_after = search digits_laws }
+pub digit_of-requires-2 : goal.digit_of-requires-2
+digit_of-requires-2 c = single c.loop-k.rest (omega (arith, decimal_some c.loop-k.rest, c.loop-k.invariant.sized))
 
-pub loop-rest-init : goal.loop-rest-init
-loop-rest-init c = search digits_laws
-
-pub overflow_sub-left : goal.overflow_sub-left
-overflow_sub-left c = search digits_laws
-
-pub digit_of-last-requires : goal.digit_of-last-requires
-digit_of-last-requires c = search digits_laws
-
-pub overflow_add-at : goal.overflow_add-at
-overflow_add-at c = search digits_laws
-
-pub put_byte-requires : goal.put_byte-requires
-put_byte-requires c = search digits_laws
-
-pub loop-rest-smaller : goal.loop-rest-smaller
-loop-rest-smaller c = search digits_laws
-
-pub loop-rest-preserved : goal.loop-rest-preserved
-loop-rest-preserved c = search digits_laws
-
-pub digit_of-first-requires : goal.digit_of-first-requires
-digit_of-first-requires c = search digits_laws
-
-pub put_byte-requires-2 : goal.put_byte-requires-2
-put_byte-requires-2 c = search digits_laws
-
-pub shape_of-output : goal.shape_of-output
-shape_of-output c = search digits_laws
-
-pub returns : goal.returns
-returns c = record { value = search digits_laws; output_after = search digits_laws }
+pub returns-clause-output_after : goal.returns-clause-output_after
+returns-clause-output_after c =
+    let i = c.loop-k.invariant in
+    digits_end c.args.n c.args.at c.loop-k.rest c.loop-k.k c.args.output.now c.loop-k.output i.written i.fits i.sized (single c.loop-k.rest (omega (arith, decimal_some c.loop-k.rest, i.sized))) _ c.digit_of-2.ensures _ c.put_byte-2.ensures

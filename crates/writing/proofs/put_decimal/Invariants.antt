@@ -5,8 +5,10 @@ use Rattle.writing.specs.Over.{over}
 use Rattle.writing.specs.Decimal.{decimal}
 use Rattle.writing.proofs.put_decimal.Given as goal
 
-abbrev pub invariant-loop-rest : goal.invariant-loop-rest
-invariant-loop-rest l = (l.at + l.left ≤ length l.output) × (l.left ≡ length (decimal l.rest)) × (length l.output ≡ length l.initial.output) × (over l.at (decimal l.n) l.initial.output ≡ over l.at (decimal l.rest) l.output)
-
-abbrev pub decreases-loop-rest : goal.decreases-loop-rest
-decreases-loop-rest l = l.rest
+abbrev pub invariant-loop-k : goal.invariant-loop-k
+invariant-loop-k l = record {
+  fits : l.at + l.k ≤ length l.output;
+  sized : l.k ≡ length (decimal l.rest);
+  same : length l.output ≡ length l.initial.output;
+  written : over l.at (decimal l.n) l.initial.output ≡ over l.at (decimal l.rest) l.output;
+}

@@ -1,41 +1,16 @@
-use Rattle.x509.proofs.Walks.{element_laws, run_laws}
+use Rattle.x509.proofs.Walks.{free_fault, free_past, fields_past}
+use borrow.Author.Rules.{rules}
 use Rattle.x509.proofs.+element_run.Goals as goal
 
-pub element-returns-then-levels-eq0 : goal.element-returns-then-levels-eq0
-element-returns-then-levels-eq0 t c = search element_laws
+pub element-returns-in_err-walk_contents-in-None : goal.element-returns-in_err-walk_contents-in-None
+element-returns-in_err-walk_contents-in-None t c =
+    let f = free_fault c.args.s.now c.args.levels c.args.from.at c.args.from.place c.args.from.noted c.if-levels-eq0.false c.header_at.result c.header_at.ensures c.in_ok-head.head c.in_ok-head.ensures.ok_part c.expects.result c.expects.ensures c.in_ok-field.field c.in_ok-field.ensures.ok_part c.note_at-before.result c.note_at-before.ensures c.walk_contents.result c.walk_contents.ensures c.in-None.is _ c.in_err-walk_contents-in-None.was in
+    search (f, rules)
 
-pub element-meet-m-requires : goal.element-meet-m-requires
-element-meet-m-requires t c = search element_laws
+pub element-returns-in_ok-walk_contents-in-None : goal.element-returns-in_ok-walk_contents-in-None
+element-returns-in_ok-walk_contents-in-None t c =
+    free_past c.args.s.now c.args.levels c.args.from.at c.args.from.place c.args.from.noted c.if-levels-eq0.false c.header_at.result c.header_at.ensures c.in_ok-head.head c.in_ok-head.ensures.ok_part c.expects.result c.expects.ensures c.in_ok-field.field c.in_ok-field.ensures.ok_part c.note_at-before.result c.note_at-before.ensures c.walk_contents.result c.walk_contents.ensures c.in-None.is _ c.in_ok-walk_contents-in-None.was
 
-pub element-slice_bounds-run-end : goal.element-slice_bounds-run-end
-element-slice_bounds-run-end t c = search element_laws
-
-pub element-returns-in-End : goal.element-returns-in-End
-element-returns-in-End t c = search element_laws
-
-pub element-returns-in-Broken : goal.element-returns-in-Broken
-element-returns-in-Broken t c = search element_laws
-
-pub element-returns-in-Refused : goal.element-returns-in-Refused
-element-returns-in-Refused t c = search element_laws
-
-pub element-returns-in-Passed : goal.element-returns-in-Passed
-element-returns-in-Passed t c = search element_laws
-
-pub element-returns-in-Entered : goal.element-returns-in-Entered
-element-returns-in-Entered t c = search element_laws
-
-pub run-returns-in-Fault : goal.run-returns-in-Fault
-run-returns-in-Fault t c = search run_laws
-
-pub run-loop-i-smaller : goal.run-loop-i-smaller
-run-loop-i-smaller t c = search run_laws
-
-pub run-loop-i-preserved : goal.run-loop-i-preserved
-run-loop-i-preserved t c = search run_laws
-
-pub run-returns-then-not-done : goal.run-returns-then-not-done
-run-returns-then-not-done t c = search run_laws
-
-pub run-returns : goal.run-returns
-run-returns t c = search run_laws
+pub element-returns-in_ok-noted-in-Some : goal.element-returns-in_ok-noted-in-Some
+element-returns-in_ok-noted-in-Some t c =
+    fields_past c.args.s.now c.args.levels c.args.from.at c.args.from.place c.args.from.noted c.if-levels-eq0.false c.header_at.result c.header_at.ensures c.in_ok-head.head c.in_ok-head.ensures.ok_part c.expects.result c.expects.ensures c.in_ok-field.field c.in_ok-field.ensures.ok_part c.note_at-before.result c.note_at-before.ensures c.in-Some.first c.in-Some.is c.run.result c.run.ensures c.in_ok-noted-in-Some.noted c.in_ok-noted-in-Some.was

@@ -11,8 +11,8 @@ decreases-element l = 2 * l.levels
 abbrev pub decreases-run : goal.decreases-run
 decreases-run l = 2 * l.levels + 1
 
-abbrev pub invariant-run-loop-i : goal.invariant-run-loop-i
-invariant-run-loop-i l = walk_run (walk_element l.levels) l.initial.p l.initial.m l.s l.fn.at ≡ walk_run (walk_element l.levels) l.p l.m l.s l.i
+abbrev pub invariant-run-loop-p : goal.invariant-run-loop-p
+invariant-run-loop-p l = walk_run (walk_element l.levels) l.fn.from.place l.fn.from.noted l.s l.fn.from.at ≡ walk_run (walk_element l.levels) l.p.place l.p.noted l.s l.p.at
 
-abbrev pub decreases-run-loop-i : goal.decreases-run-loop-i
-decreases-run-loop-i l = length l.s - l.i
+abbrev pub decreases-run-loop-p : goal.decreases-run-loop-p
+decreases-run-loop-p l = length l.s - l.p.at

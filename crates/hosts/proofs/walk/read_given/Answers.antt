@@ -1,15 +1,6 @@
 -- `hosts::walk::read_given` meets its contract. Assumes nothing.
-use Rattle.hosts.proofs.WalkReturns.{read_laws}
+use Rattle.hosts.proofs.WalkReturns.{read_some}
 use Rattle.hosts.proofs.walk.read_given.Goals as goal
 
-pub returns-then-not-given : goal.returns-then-not-given
-returns-then-not-given c = search read_laws
-
-pub lookup_of-lookup-requires : goal.lookup_of-lookup-requires
-lookup_of-lookup-requires c = search read_laws
-
-pub read_answer-read-requires : goal.read_answer-read-requires
-read_answer-read-requires c = search read_laws
-
 pub returns : goal.returns
-returns c = search read_laws
+returns c = read_some c.args.given c.args.code c.args.records.lengths.now c.args.records.bytes.now c.if-not-given.false _ c.answer_of.ensures.value _ c.read.ensures
