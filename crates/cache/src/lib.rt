@@ -44,7 +44,7 @@ pub struct CacheAnswer {
     pub id: [u8; 32],
 }
 
-// What an entry is at a clock.
+// What an entry is at a clock: the three words of the rules.
 #[derive(Clone, Copy)]
 pub enum State {
     Empty,
@@ -117,7 +117,7 @@ pub fn no_entry() -> CacheEntry
     }
 }
 
-// A text less its final zeros, as far as they fill N bytes at a time.
+// A text less its final zeros, as far as they fill N bytes at a time. The loop counts no index: it goes on as long as N more zeros end the text.
 fn without_zeros<const N: usize>(s: &[u8]) -> &[u8]
     requires { (0 < N) × (N ≤ 8) }
     ensures same { unfilled result.now ≡ unfilled s.now }

@@ -10,7 +10,7 @@ ghost use Rattle.names.specs.Name.{some_matches};
 ghost use Rattle.tlsa.specs.Record.{matching_type_of, usable};
 ghost use Rattle.tlsa.specs.Answer.{records_in};
 ghost use Rattle.certificates.specs.Facts.{digest_at, certificate_at, certificates_of, certificates_in, text_in, presented_by};
-ghost use Rattle.certificates.specs.Limits.{one_for_each, chain_fits, names_fit, chain_keeps, names_keep, facts_keep, yes_no};
+ghost use Rattle.certificates.specs.Limits.{one_for_each, names_fit, chain_keeps, names_keep, facts_keep, yes_no};
 ghost use Rattle.certificates.specs.Steps.{digest_start, digest_on_path, any_place, sha512_of, with_record, ignored_beside, passes, match_of, places_fit};
 ghost use Rattle.certificates.specs.Checks.{compared, matches_certificate, matches_on_path, leaf_of, after_leaf, further_reference, references, references_in, leaf_names, names_reference, dane_passes, shows_host};
 

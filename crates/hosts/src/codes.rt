@@ -1,6 +1,5 @@
 // The codes of the call's numbers.
 ghost use Rattle.std.specs.Prelude.{◌≡◌};
-ghost use Rattle.numbers.specs.Pieces.{pieces_in};
 ghost use Rattle.tlsa.specs.Answer.{answer_of, answer_fits, answer_in, answer_keeps};
 ghost use Rattle.hosts.specs.Arguments.{origin_of, address_of, is_alias, lookup_of};
 

@@ -3,7 +3,7 @@ ghost use Rattle.std.specs.Prelude.{◌≡◌, cond, not, ◌&&◌, ◌||◌, �
 ghost use Rattle.tlsa.specs.Answer.{records_in, answer_of};
 ghost use Rattle.certificates.specs.Facts.{when, presented_by};
 ghost use Rattle.certificates.specs.Limits.{facts_keep};
-ghost use Rattle.certificates.specs.Checks.{references_in, references, dane_passes, shows_host};
+ghost use Rattle.certificates.specs.Checks.{references, dane_passes, shows_host};
 ghost use Rattle.hosts.specs.Rules.{is_authentication, is_tls, last_verdict};
 ghost use Rattle.hosts.specs.Arguments.{said_by, origin_of, lookup_of, offered_of, outcome_of, presented_in};
 ghost use Rattle.hosts.specs.Call.{if_supplied, certificates_fit};

@@ -106,7 +106,7 @@ fn read_chain(leaf: &[u8], chain: &Chain<'_>) -> Result<Found, Refusal>
     Ok(leaf::read_leaf(leaf)?)
 }
 
-// The plain call's answer. Its code stands once in this crate, which asks for it at four places.
+// The plain call's answer. Its code stands once in this crate, which asks for it at three places.
 #[inline(never)]
 fn plain_answer(call: &HostCall<'_>) -> HostAnswer
     ensures { result ≡ host_answer (said_by call.now) }

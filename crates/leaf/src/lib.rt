@@ -3,7 +3,6 @@
 
 ghost use Rattle.std.specs.Prelude.{◌≡◌, [], ◌∷◌, ◌++◌, ◌<◌, ◌≤◌, ◌-◌, ◌*◌, ◌^◌, length, drop};
 ghost use Rattle.std.specs.Iterator.{YieldsFirst, item_count};
-ghost use Rattle.lists.specs.Write.{wrote_front};
 ghost use Rattle.leaf.specs.declared.ReadError.TheVariants.{Malformed};
 ghost use Rattle.leaf.specs.Names.{dns_ids_from, dns_ids_of, ids_left, first_of};
 ghost use Rattle.leaf.specs.Read.{sixteen, places_text, accepted, refusal, read_leaf, read_certificate, wrote_places};

@@ -115,7 +115,7 @@ pub fn is_pattern(p: &[u8]) -> bool
     is_name(if is_starred(p) { &p[2..] } else { p })
 }
 
-// What a text is for a name: no pattern; or a pattern that matches the name, or another.
+// What a text is for a name: no pattern; or a pattern that matches the name, or another. An `Option<bool>` would be no plainer: it has no word for what its `bool` says.
 #[derive(Clone, Copy)]
 pub enum Pattern {
     Malformed,

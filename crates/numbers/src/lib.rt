@@ -1,7 +1,7 @@
 // Lists of four-byte numbers, the highest byte first, the pieces that such a list of lengths cuts, and the bytes of an eight-byte number.
 #![tactic(auto)]
 
-ghost use Rattle.std.specs.Prelude.{◌≡◌, cond, ◌&&◌, ◌*◌, ◌+◌, ◌%◌, ◌<◌, ltb, length, get_or, take, drop};
+ghost use Rattle.std.specs.Prelude.{◌≡◌, ◌&&◌, ◌*◌, ◌+◌, ◌%◌, ◌<◌, length, get_or, take, drop};
 ghost use Rattle.std.specs.Iterator.{YieldsFirst, YieldsFirstRef, item_count};
 ghost use Rattle.lists.specs.Bytes.{all};
 ghost use Rattle.numbers.specs.Numbers.{numbers, is_whole, at_most, eight, words_in};

@@ -18,7 +18,7 @@ use names::Pattern;
 
 mod utf8;
 
-// The answer numbers.
+// The answer numbers, by which C reads them (the C interface).
 pub const ACCEPTED: u64 = 7;
 
 pub const TOO_LONG: u64 = 50;
@@ -35,7 +35,7 @@ pub const BAD_MAX_AGE: u64 = 56;
 
 pub const BAD_MX: u64 = 57;
 
-// The numbers of the modes.
+// The numbers of the modes, by which C reads them (the C interface).
 pub const ENFORCE: u64 = 1;
 
 pub const TESTING: u64 = 2;

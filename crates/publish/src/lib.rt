@@ -14,7 +14,7 @@ ghost use Rattle.writing.specs.Over.{over};
 ghost use Rattle.writing.specs.Answer.{refusal, write_answer, write_output};
 ghost use Rattle.writing.specs.Decimal.{decimal};
 ghost use Rattle.publish.specs.Texts.{field_line, mx_lines};
-ghost use Rattle.publish.specs.Calls.{write_txt_answer, write_txt_output, mode_from, count_fits, patterns_fit, policy_checks, policy_of, write_policy_answer, write_policy_output, rewrite_checks, rewritten, rewrite_answer, rewrite_output};
+ghost use Rattle.publish.specs.Calls.{write_txt_answer, write_txt_output, count_fits, patterns_fit, policy_checks, policy_of, write_policy_answer, write_policy_output, rewrite_checks, rewritten, rewrite_answer, rewrite_output};
 ghost use Rattle.publish.specs.Patterns.{patterns_in};
 ghost use Rattle.publish.specs.Steps.{head_text, age_line, number_of, moded, bytes_of, agrees};
 

@@ -15,7 +15,7 @@ pub struct Reader<'a> {
     pub at: usize,
 }
 
-// What stands at a reader's place: an element, the end, or no header of the right form.
+// What stands at a reader's place: an element, the end, or no header of the right form. A `Result<Option<Head>, ..>` would be no plainer: each `match` has the three arms all the same.
 #[derive(Clone, Copy, Debug, PartialEq, Eq)]
 pub enum Step {
     Element(Head),

@@ -1,7 +1,7 @@
 // TLS reports (RFC 8460): the counts of a day's sessions, and the summary of a report.
 #![tactic(auto)]
 
-ghost use Rattle.std.specs.Prelude.{◌≡◌, true, ◌+◌, ◌<◌, ◌≤◌, leb, length};
+ghost use Rattle.std.specs.Prelude.{◌≡◌, ◌+◌, ◌<◌, ◌≤◌, leb, length};
 ghost use Rattle.writing.specs.Decimal.{decimal};
 ghost use Rattle.writing.specs.Over.{over};
 ghost use Rattle.reports.specs.Counts.{result_of, count_at, total_of, one_more};

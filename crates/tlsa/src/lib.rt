@@ -26,7 +26,8 @@ pub enum Needs {
     Authentication,
 }
 
-// What reading a TLSA answer comes to: the lookup failed, the set is taken, or the next name is tried.
+// What reading a TLSA answer comes to: the lookup failed, the set is taken, or the next name is tried. A `Result<Option<Needs>, ..>` would be no plainer: each `match` has the three arms
+// all the same.
 #[derive(Clone, Copy)]
 pub enum Read {
     LookupFailed,
@@ -46,7 +47,7 @@ pub enum Address {
     NoAddress,
 }
 
-// The TLSA names to try; or that the address lookup failed, or that there is no address.
+// The TLSA names to try; or that the address lookup failed, or that there is no address: one case for each row of the rule, so that one `match` has the rule's order.
 #[derive(Clone, Copy)]
 pub enum Tries {
     ExpandedThenHost,

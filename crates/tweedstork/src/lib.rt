@@ -1,7 +1,7 @@
 // The C boundary: each call takes numbers, and slices of bytes or entries, of any contents, and answers for all of them. `include/tweedstork.h` declares them.
 #![tactic(auto)]
 
-ghost use Rattle.std.specs.Prelude.{true, ◌≡◌, [], length};
+ghost use Rattle.std.specs.Prelude.{◌≡◌, [], length};
 ghost use Rattle.cache.specs.Store.{store_answer, table_after, texts_after};
 ghost use Rattle.cache.specs.Lookup.{lookup_answer};
 ghost use Rattle.hosts.specs.Arguments.{arguments_of};

@@ -6,7 +6,7 @@ ghost use Rattle.writing.specs.Answer.{refusal, success};
 ghost use Rattle.writing.specs.Decimal.{digit, decimal};
 ghost use Rattle.writing.specs.Over.{over};
 
-// The refusal of an output that is too short.
+// The refusal of an output that is too short, as C reads it (the C interface).
 pub const OUTPUT_SHORT: u64 = 83;
 
 // The answer of a call that writes: 15 with the length that it wrote to its output, 0 where it has none; or a refusal and zero.
