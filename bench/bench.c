@@ -39,7 +39,7 @@ static const struct promise {
     {LEAF_BYTES, NULL, 1.5, "bytes of a leaf that is read", "as with reading a leaf"},
     {LEAF_READ, NULL, 1.5, "a host by its leaf", "as with reading a leaf; the names are gathered one after another, as the plain call takes them"},
     {LEAF_READ, many_dns_ids_by_leaf, 1.6, "a host by a leaf of 5 KB", "room for 16,384 bytes of names is cleared; for a leaf of up to 2,000 bytes it is 2,000"},
-    {NAMES_GIVEN, NULL, 1.35, "the same hosts by the names that the relay gives", "the two calls on a host share their code, to which 32 arguments are handed on in memory: about 160 instructions a call"},
+    {NAMES_GIVEN, NULL, 1.35, "the same hosts by the names that the relay gives", "the 32 arguments are gathered into one struct in memory, which is handed to the code that judges"},
     {CALLS, one_usage_3_record, 1.3, "a host with one record", "as above"},
     {CALLS, one_usage_2_record, 1.3, "a host with one record of usage 2", "as above"},
     {CALLS, one_usage_2_record_expanded, 1.3, "a host that the expanded next-hop names", "as above"},

@@ -1,10 +1,12 @@
 -- A table that is gone over in passes, each entry with a rank: not the paper's words, but the same answers (proofs/Scanned.antt joins the two). A pass looks for the
--- domain's own entry, without a look at the text of any other; a store without one makes a second pass, for an empty entry or a stale one. Of these definitions the code's
--- own contracts cite `state_of` alone: what its functions find is said in `Search`.
-use Rattle.std.specs.Prelude.{ℕ, ◌+◌, Bool, true, false, cond, not, ◌&&◌, ◌||◌, List, [], ◌∷◌, ◌++◌, eqb, ltb, length, take, drop}
+-- domain's own entry, without a look at the text of any other; a store without one makes a second pass, for an empty entry or a stale one. `store` and `lookup` promise
+-- these answers too (`by_ranks`); what the functions under them find is said in `Search`.
+use Rattle.std.specs.Prelude.{ℕ, ◌+◌, Bool, true, false, cond, not, ◌&&◌, ◌||◌, List, [], ◌∷◌, ◌++◌, ◌≡◌, eqb, ltb, length, take, drop, set}
 use Rattle.std.proofs.Math.Option.{Option, none, some}
 use Rattle.lists.specs.Equal.{same_text}
 use Rattle.lists.specs.Check.{refusal_of}
+use Rattle.writing.specs.declared.WriteAnswer.{WriteAnswer}
+use Rattle.writing.specs.Over.{over}
 use Rattle.cache.specs.declared.CacheEntry.{CacheEntry}
 use Rattle.cache.specs.declared.State.{State}
 use Rattle.cache.specs.declared.State.TheVariants as S
@@ -101,6 +103,16 @@ plan_by (some refusal) n m place made = refused_plan refusal n m
 -- what a store is to do
 unfoldable pub plan_of : ℕ → (d i p : List ℕ) → ℕ → ℕ → Found → Plan
 plan_of clock d i p n m s = plan_by (refusal_for clock d i p n m s.rank) n m s.place (entry_for clock d i p)
+
+-- what a store is to do after both passes
+abbrev pub plan_for : ℕ → (d i p : List ℕ) → List CacheEntry → List ℕ → Plan
+plan_for clock d i p t x = plan_of clock d i p (length t) (length x) (both_scanned clock d t x)
+
+-- a plan was followed in a store of the policy p: the answer has its number, its entry stands at its place, and p at the text's place
+pub record Planned (plan : Plan) (p : List ℕ) (answer : WriteAnswer) (t u : List CacheEntry) (x y : List ℕ) : Type 0 where
+  pub answered : answer ≡ record { number = plan.number; length = 0 }
+  pub table : u ≡ set t plan.place plan.entry
+  pub texts : y ≡ over (text_place plan.place) p x
 
 -- the text of what was found
 abbrev pub found_text : List ℕ → Found → List ℕ

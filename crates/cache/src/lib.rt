@@ -7,7 +7,7 @@ ghost use Rattle.lists.specs.Check.{refusal_of};
 ghost use Rattle.cache.specs.Held.{unfilled, filled, zeros, fields_fit, held_in, text_at, contents, no_entry};
 ghost use Rattle.cache.specs.Store.{own_place, store_place, store_refusal, entry_for, store_answer, table_after, texts_after};
 ghost use Rattle.cache.specs.Lookup.{only_number, lookup_refusal, lookup_answer};
-ghost use Rattle.cache.specs.Scan.{state_of};
+ghost use Rattle.cache.specs.Scan.{state_of, own_scanned, answer_from, plan_for, Planned};
 ghost use Rattle.cache.specs.Search.{liveness, own_entry, other_place, number_of, agrees, policy_checks, found_refusal, answer_at};
 
 use clock::{Lifetime, Reading};
@@ -335,7 +335,7 @@ fn entry_for<'a>(clock: u64, domain: &'a [u8], id: &'a [u8], policy: &'a [u8]) -
     }
 }
 
-// Keeps a domain's policy, with its id and the call's clock as that of the fetch.
+// Keeps a domain's policy, with its id and the call's clock as that of the fetch. What it leaves is also what two passes that give each entry a rank plan.
 pub fn store<'a, 'b, 'c>(
     clock: u64,
     domain: &'a [u8],
@@ -347,6 +347,7 @@ pub fn store<'a, 'b, 'c>(
     ensures answer { result ≡ store_answer clock domain.now id.now policy.now table.old texts.old }
     ensures table_after { table.new ≡ table_after clock domain.now id.now policy.now table.old texts.old }
     ensures texts_after { texts.new ≡ texts_after clock domain.now id.now policy.now table.old texts.old }
+    ensures by_ranks { Planned (plan_for clock domain.now id.now policy.now table.old texts.old) policy.now result table.old table.new texts.old texts.new }
 {
     let cache = Cache {
         clock,
@@ -379,9 +380,10 @@ fn only_number(number: u64) -> CacheAnswer
     }
 }
 
-// The live policy that the table holds for a domain.
+// The live policy that the table holds for a domain; also what a pass that gives each entry a rank finds.
 pub fn lookup(clock: u64, domain: &[u8], table: &[CacheEntry], texts: &[u8]) -> CacheAnswer
-    ensures { result ≡ lookup_answer clock domain.now table.now texts.now }
+    ensures answer { result ≡ lookup_answer clock domain.now table.now texts.now }
+    ensures by_ranks { result ≡ answer_from clock domain.now (length table.now) texts.now (own_scanned clock domain.now table.now texts.now) }
 {
     let cache = Cache {
         clock,

@@ -1,7 +1,8 @@
 // The hosts of a message: which of them is tried next, or what the delivery has come to.
 #![tactic(auto)]
 
-ghost use Rattle.std.specs.Prelude.{◌≡◌, ℕ, List, ◌<◌, ◌≤◌};
+ghost use Rattle.std.specs.Prelude.{◌≡◌, ℕ, List, ◌<◌, ◌≤◌, length};
+ghost use Rattle.numbers.specs.Numbers.{numbers};
 ghost use Rattle.messages.specs.Hosts.{is_host_verdict, no_host, message_answer, hosts_answer, lists_answer, next_host};
 ghost use Rattle.messages.specs.Search.{with_host, decided_by, Gives};
 
@@ -117,6 +118,29 @@ pub fn first_host(preferences: [u16; 32], verdicts: [u8; 32], count: usize) -> M
     )
 }
 
+// The answer of two lists of `count` numbers, which are read into two arrays. A number that doesn't fit there is no preference, or no verdict: 63.
+#[tactic(auto, using(crate::proofs::Arrays::read_laws))]
+fn read_hosts(preferences: &[u8], verdicts: &[u8], count: usize) -> MessageAnswer
+    requires { (count ≡ length (numbers preferences.now)) × (count ≡ length (numbers verdicts.now)) × (0 < count) × (count ≤ 32) }
+    ensures { result ≡ message_answer (numbers preferences.now) (numbers verdicts.now) }
+{
+    let mut p = [0u16; 32];
+    let mut v = [0u8; 32];
+    for k in 0..count {
+        let preference = numbers::number(preferences, k);
+        if 65535 < preference {
+            return no_host(63);
+        }
+        let verdict = numbers::number(verdicts, k);
+        if 255 < verdict {
+            return no_host(63);
+        }
+        p[k] = preference as u16;
+        v[k] = verdict as u8;
+    }
+    first_host(p, v, count)
+}
+
 // The answer of the two lists, where the MX lookup was answered.
 fn answer_of_lists(preferences: &[u8], verdicts: &[u8]) -> MessageAnswer
     ensures { result ≡ lists_answer preferences.now verdicts.now }
@@ -128,11 +152,7 @@ fn answer_of_lists(preferences: &[u8], verdicts: &[u8]) -> MessageAnswer
     if !(1..=32).contains(&count) || numbers::count(verdicts) != count {
         return no_host(63);
     }
-    walk_hosts(
-        count,
-        |k| numbers::number(preferences, k),
-        |k| numbers::number(verdicts, k),
-    )
+    read_hosts(preferences, verdicts, count)
 }
 
 // The answer of a message: how its MX lookup ended, and the lists of its hosts' preferences and verdicts.

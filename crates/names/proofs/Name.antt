@@ -1,14 +1,14 @@
 -- `is_name`: a turn of its loop, and its returns. A label begins at `start`; e is the first place after it where a byte stands that is of no label. Assumes nothing.
-use Prim.Native.Nat.{ℕ, ◌+◌, ◌-◌, ◌<◌, ◌≤◌}
+use Prim.Native.Nat.{ℕ, zero, suc, ◌+◌, ◌-◌, ◌<◌, ◌≤◌}
 use mathlib.Core.Path.{◌≡◌, refl, sym, ◌∙◌}
 use mathlib.Core.Bool.{Bool, true, false, not, ◌&&◌, and-true, and-false}
 use mathlib.Core.List.{List}
 use mathlib.Core.Logic.{⊎_elim}
-use native.Mathlib.Nat.{eq-or-lt_of_le}
+use native.Mathlib.Nat.{add-zero, eq-or-lt_of_le}
 use native.Mathlib.Omega.{arith}
 use lib.Dec.{eqb, ltb}
 use lib.ListN.{length, get_or, take, drop, length-drop}
-use lib.Seq.{get_or-drop}
+use lib.Seq.{get_or-drop, get_or-take}
 use borrow.Author.Tests.{ltb-true, ltb-false, eqb-true, eqb-false}
 use Rattle.lists.specs.Bytes.{within, all}
 use Rattle.lists.specs.Span.{span_of}
@@ -34,6 +34,16 @@ module _ (l : List ℕ) where
   label_broken : all label_byte l ≡ false → is_label l ≡ false
   unfolding is_label
   label_broken h = rw h (and-false (within 1 63 (length l) && not (eqb (get_or l 0 0) 45) && not (eqb (get_or l (length l - 1) 0) 45)))
+
+-- what begins with a hyphen, and any part of its front, has not the ends of a label
+hyphen_ends : (l : List ℕ) → get_or l 0 0 ≡ 45 → label_ends l ≡ false
+unfolding label_ends
+hyphen_ends l h = simp (h, and-false)
+
+hyphen_first : (k : ℕ) (l : List ℕ) → get_or l 0 0 ≡ 45 → label_ends (take k l) ≡ false
+unfolding label_ends
+hyphen_first zero l h = refl
+hyphen_first (suc k) l h = hyphen_ends (take (suc k) l) (get_or-take (suc k) l 0 0 (omega arith) ∙ h)
 
 -- a piece that is no label: no name
 name_fail : (s : List ℕ) (start e : ℕ) → e ≡ start + index_of 46 (drop start s) → all is_label (split 46 s) ≡ all is_label (split 46 (drop start s)) → (r : Bool) → r ≡ is_label (take (e - start) (drop start s)) → start ≤ length s → r ≡ false → false ≡ is_name s
@@ -98,6 +108,10 @@ module _ (s : List ℕ) (start e : ℕ) (stops : e ≡ start + span_of label_byt
         go false y p q = no_label (found_end (ltb-false e (length s) p))
         go true true p q = no_label (found_dot (ltb-true e (length s) p) (eqb-true (get_or s e 0) 46 q))
         go true false p q = name_byte inv (ltb-true e (length s) p) (eqb-false (get_or s e 0) 46 q)
+
+  -- a label that begins with a hyphen is none
+  pub name_hyphen : all is_label (split 46 s) ≡ all is_label (split 46 (drop start s)) → get_or s start 0 ≡ 45 → false ≡ is_name s
+  name_hyphen inv h = name_bad false (sym (hyphen_first (e - start) (drop start s) (get_or-drop start s 0 0 ∙ rw add-zero h))) inv refl
 
 -- at the end of s: r is what `has_label_ends` gave of what stands from `start` on
 pub name_last : (s : List ℕ) (start : ℕ) → length s ≡ start + span_of label_byte (drop start s) → start ≤ length s → all is_label (split 46 s) ≡ all is_label (split 46 (drop start s)) → 1 ≤ length s → length s ≤ 253 → (r : Bool) → r ≡ label_ends (take (length s - start) (drop start s)) → r ≡ is_name s

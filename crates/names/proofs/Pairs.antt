@@ -194,6 +194,10 @@ module _ (a b : List ℕ) (l : length a ≡ length b) where
     pub unread_none : unread ≤ 0 → record { equal = true; pairs = length a } ≡ comparison a b
     unread_none h = let z : unread ≡ 0 = omega arith in sym (all_pairs a b (rw z at inv))
 
+    -- the count, raised with each pair that is read
+    pub counted_none : unread ≤ 0 → (k : ℕ) → k + unread ≡ length a → record { equal = true; pairs = k } ≡ comparison a b
+    counted_none h k e = let n : k ≡ length a = omega arith in rw n (unread_none h)
+
     module _ (h : 0 < unread) (w : unread ≤ length a) (r : Bool) (gave : r ≡ same_letter (get_or a (unread - 1) 0) (get_or b (unread - 1) 0)) where
       back : (unread - 1) + 1 ≡ unread
       back = omega arith
@@ -205,7 +209,10 @@ module _ (a b : List ℕ) (l : length a ≡ length b) where
       pub unread_differ : r ≡ false → record { equal = false; pairs = length a - (unread - 1) } ≡ comparison a b
       unread_differ f = sym (to_the_difference a b (record { one_length = l; place = unread - 1; inside = omega arith; differs = sym gave ∙ f; same_after = rw back inv }))
 
-pub ruleset pairs_laws = (unread_all, unread_none, unread_same, unread_differ, not-true, not-false, rules)
+      pub counted_differ : r ≡ false → (k : ℕ) → k + (unread - 1) ≡ length a → record { equal = false; pairs = k } ≡ comparison a b
+      counted_differ f k e = let n : k ≡ length a - (unread - 1) = omega arith in rw n (unread_differ f)
+
+pub ruleset pairs_laws = (unread_all, counted_none, unread_same, counted_differ, not-true, not-false, rules)
 
 -- `compare`
 pub lengths_differ : (a b : List ℕ) → (length a ≡ length b → ⊥) → record { equal = false; pairs = 0 } ≡ comparison a b

@@ -1,7 +1,7 @@
 // Comparing two texts; names, and the patterns that match them.
 #![tactic(auto)]
 
-ghost use Rattle.std.specs.Prelude.{◌≡◌, ◌&&◌, true, length};
+ghost use Rattle.std.specs.Prelude.{◌≡◌, ◌&&◌, true, eqb, get_or, length};
 ghost use Rattle.lists.specs.Equal.{same_text};
 ghost use Rattle.numbers.specs.Numbers.{numbers};
 ghost use Rattle.numbers.specs.Pieces.{cut};
@@ -24,18 +24,18 @@ fn compare_pairs(a: &[u8], b: &[u8]) -> Comparison
     requires { length a.now ≡ length b.now }
     ensures { result ≡ comparison a.now b.now }
 {
+    let mut pairs = 0;
     for i in (0..a.len()).rev() {
-        if !lists::is_same_letter(a[i], b[i]) {
+        let same = lists::is_same_letter(a[i], b[i]);
+        pairs += 1;
+        if !same {
             return Comparison {
                 equal: false,
-                pairs: a.len() - i,
+                pairs,
             };
         }
     }
-    Comparison {
-        equal: true,
-        pairs: a.len(),
-    }
+    Comparison { equal: true, pairs }
 }
 
 // Compares two texts ignoring ASCII case: their lengths first, then byte pairs from the right. That `equal` says whether they are the same text
@@ -80,17 +80,25 @@ fn has_label_ends(l: &[u8]) -> bool
     1 <= l.len() && l.len() <= 63 && l[0] != b'-' && l[l.len() - 1] != b'-'
 }
 
-// Whether s is a name: 1 to 253 bytes, labels joined by single dots. All is read in one pass: a label begins at `start`, and its bytes up to the present one are a label's.
+// Whether a hyphen stands at a place.
+fn has_hyphen_at(s: &[u8], at: usize) -> bool
+    ensures { result ≡ eqb (get_or s.now at 0) 45 }
+{
+    at < s.len() && s[at] == b'-'
+}
+
+// Whether s is a name: 1 to 253 bytes, labels joined by single dots. All is read in one pass: a label begins at `start`, with no hyphen, and its bytes up to the present one are a
+// label's.
 pub fn is_name(s: &[u8]) -> bool
     ensures { result ≡ is_name s.now }
 {
-    if s.len() < 1 || 253 < s.len() {
+    if s.len() < 1 || 253 < s.len() || has_hyphen_at(s, 0) {
         return false;
     }
     let mut start = 0;
     for (i, b) in s.iter().enumerate() {
         if !is_label_byte(*b) {
-            if *b != b'.' || !has_label_ends(&s[start..i]) {
+            if *b != b'.' || !has_label_ends(&s[start..i]) || has_hyphen_at(s, i + 1) {
                 return false;
             }
             start = i + 1;

@@ -31,6 +31,14 @@ end_is total at n h = go (leb (at + n) total) refl
     go true q = omega (arith, leb-true (at + n) total q)
     go false q = omega (arith, leb-false (at + n) total q)
 
+pub end_most : (total at n : ℕ) → end_of total at n ≤ total
+unfolding end_of
+end_most total at n = go (leb (at + n) total) refl
+  where
+    go : (t : Bool) → leb (at + n) total ≡ t → cond t (at + n) total ≤ total
+    go true q = leb-true (at + n) total q
+    go false q = omega arith
+
 -- the piece of n bytes that starts at `at`, where `end_of` gave e as its end
 module _ (s : List ℕ) (at n e : ℕ) (ends : e ≡ end_of (length s) at n) (w : at ≤ length s) where
   by_end : (t : Bool) → leb (at + n) (length s) ≡ t → e ≡ cond t (at + n) (length s) → (take (e - at) (drop at s) ≡ take n (drop at s)) × (drop e s ≡ drop n (drop at s)) × (at ≤ e) × (e ≤ length s)

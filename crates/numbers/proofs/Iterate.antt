@@ -4,11 +4,12 @@ use Rattle.std.proofs.lemmas.List.{length-drop, take_min, drop_min}
 use lib.Seq.{take_all}
 use Rattle.std.specs.Int.{w32, from_be_bytes}
 use Rattle.numbers.specs.Numbers.{numbers, sum}
-use Rattle.numbers.specs.Pieces.{cut}
+use Rattle.numbers.specs.Pieces.{cut, end_of}
 use lib.ListN.{get_or-eq_default}
 use Rattle.std.specs.Simd.{first_chunks}
 use Rattle.lists.proofs.Chunks.{chunk_is}
 use Rattle.numbers.proofs.Numbers.{count_is, number_shift}
+use Rattle.numbers.proofs.Cut.{end_take, end_drop}
 
 pub numbers_none : (ns : List ℕ) → length ns < 4 → numbers ns ≡ []
 unfolding numbers
@@ -36,13 +37,24 @@ next_word ns first left n p q k e =
     let h : 4 ≤ length ns = omega arith in
     rw (q, numbers_next ns h, e, p)
 
--- one turn of `Pieces`, at n, the number of the first four of the lengths: the piece ends at m, and the lengths after the first are left
+-- the first of some pieces, at n, the number of the first four of the lengths: the piece ends at m, and the lengths after the first are left
 pub next_piece : (s ns first left : List ℕ) (n m : ℕ) → first ≡ take 4 ns → left ≡ drop 4 ns → length left + 4 ≡ length ns → n ≡ from_be_bytes w32 first → m ≡ min n (length s) → cut s (numbers ns) ≡ take m s ∷ cut (take (length s - m) (drop m s)) (numbers left)
 unfolding cut
 next_piece s ns first left n m p q k e f =
     let h : 4 ≤ length ns = omega arith in
     let r : take (length s - m) (drop m s) ≡ drop m s = take_all (length s - m) (drop m s) (omega (arith, length-drop m s)) in
     rw (r, f, take_min n s, drop_min n s, q, numbers_next ns h, e, p)
+
+-- one turn of `Pieces`: the piece of the first length ends at m, as `end_at` says, and the bytes after it and the lengths after the first are left
+pub next_part : (s ns left piece rest : List ℕ) (m : ℕ) → left ≡ drop 4 ns → length left + 4 ≡ length ns → m ≡ end_of (length s) 0 (get_or (numbers ns) 0 0) → piece ≡ take m s → rest ≡ drop m s → cut s (numbers ns) ≡ piece ∷ cut rest (numbers left)
+unfolding cut
+next_part s ns left piece rest m q k e f g =
+    let h : 4 ≤ length ns = omega arith in
+    let n : numbers ns ≡ get_or (numbers ns) 0 0 ∷ numbers (drop 4 ns) = rw (numbers_next ns h) in
+    let z : m - 0 ≡ m = omega arith in
+    let t : take m s ≡ take (get_or (numbers ns) 0 0) s = rw z at (end_take s 0 (get_or (numbers ns) 0 0) m e (omega arith)) in
+    let d : drop m s ≡ drop (get_or (numbers ns) 0 0) s = end_drop s 0 (get_or (numbers ns) 0 0) m e (omega arith) in
+    ap (cut s) n ∙ rw (f, g, t, d, q)
 
 -- an item leaves fewer
 pub fewer : {A : Type 0} (xs ys : List A) (x : A) → xs ≡ x ∷ ys → length ys < length xs

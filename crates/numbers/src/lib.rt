@@ -101,12 +101,12 @@ impl<'a> Iterator for Pieces<'a> {
 
     ghost remaining = { item_count pieces_in };
 
+    #[tactic(auto, using(crate::proofs::Cut::end_most))]
     fn next(&mut self) -> Option<&'a [u8]> {
-        let (length, lengths) = self.lengths.split_first_chunk::<4>()?;
-        let n = u32::from_be_bytes(*length) as usize;
-        let end = n.min(self.bytes.len());
-        let piece = &self.bytes[..end];
-        self.bytes = &self.bytes[end..];
+        let (_, lengths) = self.lengths.split_first_chunk::<4>()?;
+        let end = end_at(self.lengths, 0, 0, self.bytes.len());
+        let (piece, bytes) = self.bytes.split_at(end);
+        self.bytes = bytes;
         self.lengths = lengths;
         Some(piece)
     }

@@ -1,7 +1,7 @@
 -- Texts in UTF-8: the returns of the functions of `utf8`, and that printable bytes are a text. Assumes nothing.
-use Prim.Native.Nat.{ℕ, ◌-◌, ◌<◌, ◌≤◌}
+use Prim.Native.Nat.{ℕ, suc, ◌+◌, ◌-◌, ◌<◌, ◌≤◌}
 use mathlib.Core.Path.{◌≡◌, refl, ◌∙◌}
-use mathlib.Core.Bool.{Bool, true, false, ◌&&◌, ◌||◌, and-false, and-true, or-false, or_self}
+use mathlib.Core.Bool.{Bool, true, false, cond, ◌&&◌, ◌||◌, and-false, and-true, or-false, or_self}
 use mathlib.Core.List.{List, [], ◌∷◌}
 use mathlib.Core.Logic.{⊎_elim}
 use native.Mathlib.Omega.{arith}
@@ -9,6 +9,8 @@ use lib.ListN.{length, get_or, take, drop, length-drop}
 use borrow.Author.Rules.{rules}
 use borrow.Author.Tests.{lt-leb, le-leb, ne_eqb}
 use Rattle.lists.specs.Bytes.{within, all}
+use Rattle.lists.specs.Span.{span_of}
+use Rattle.lists.proofs.Span.{span_le}
 use Rattle.lists.proofs.Laws.{take_rest, tests, above_or_below}
 use Rattle.lists.proofs.Bools.{never}
 use Rattle.policies.specs.Texts.{utf8_tail, utf8_two, utf8_three, utf8_four, printable, is_text}
@@ -85,6 +87,29 @@ text_plain x [] p = p
 text_plain x (b ∷ []) p = rw p
 text_plain x (b ∷ c ∷ []) p = rw p
 text_plain x (b ∷ c ∷ d ∷ s) p = rw p
+
+-- printable bytes at the front
+pub text_run : (s : List ℕ) → is_text s ≡ is_text (drop (span_of printable s) s)
+unfolding span_of
+text_run [] = refl
+text_run (x ∷ s) = go (text_run s) (printable x) refl
+  where
+    go : is_text s ≡ is_text (drop (span_of printable s) s) → (b : Bool) → printable x ≡ b → is_text (x ∷ s) ≡ is_text (drop (cond b (suc (span_of printable s)) 0) (x ∷ s))
+    go ih true p = text_plain x s p ∙ ih
+    go ih false p = refl
+
+-- `after_printable`: e is where `past` ended
+module _ (s : List ℕ) (e : ℕ) (ends : e ≡ 0 + span_of printable (drop 0 s)) where
+  pub run_within : e ≤ length s
+  run_within = omega (arith, span_le printable s)
+
+  pub run_text : is_text s ≡ is_text (take (length s - e) (drop e s))
+  run_text = let z : e ≡ span_of printable s = omega arith in rw (take_rest s e, z) (text_run s)
+
+  pub run_fewer : length (take (length s - e) (drop e s)) ≤ length s
+  run_fewer = rw (take_rest s e) (omega (arith, length-drop e s))
+
+pub ruleset run_laws = (run_within, run_text, run_fewer, rules)
 
 pub text_two : (a b : ℕ) (t : List ℕ) → printable a ≡ false → utf8_two a b ≡ true → is_text (a ∷ b ∷ t) ≡ is_text t
 unfolding is_text

@@ -71,18 +71,28 @@ fn after_character(v: &[u8]) -> Option<&[u8]>
     }
 }
 
+// What follows the spaces and bytes 21 to 7E at the front of v.
+#[tactic(auto, using(crate::proofs::Texts::run_laws))]
+fn after_printable(v: &[u8]) -> &[u8]
+    ensures text { is_text v.now ≡ is_text result.now }
+    ensures fewer { length result.now ≤ length v.now }
+{
+    let end = lists::past(v, 0, is_printable);
+    &v[end..]
+}
+
 // Whether v is made of spaces, bytes 21 to 7E and sequences.
 #[tactic(auto, using(crate::proofs::Texts::text_end))]
 pub fn is_text(v: &[u8]) -> bool
     ensures { result ≡ is_text v.now }
 {
-    let mut rest = v;
-    // The step is what was read, one to four bytes. An iterator had to end in two ways, at the end of v and where no character stands.
+    let mut rest = after_printable(v);
+    // The step is what was read, one to four bytes and the printable ones after them. An iterator had to end in two ways, at the end of v and where no character stands.
     while 0 < rest.len() {
         let Some(after) = after_character(rest) else {
             return false;
         };
-        rest = after;
+        rest = after_printable(after);
     }
     true
 }

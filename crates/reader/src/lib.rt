@@ -88,8 +88,12 @@ impl<'a> Iterator for Reader<'a> {
 
     #[tactic(auto, using(crate::proofs::Moves::left_laws))]
     fn next(&mut self) -> Option<Head> {
-        let head = der::header_at(self.src, self.at)?;
-        self.at = head.end;
-        Some(head)
+        match self.step() {
+            Step::Element(head) => {
+                self.at = head.end;
+                Some(head)
+            }
+            Step::End | Step::Broken => None,
+        }
     }
 }

@@ -177,12 +177,17 @@ module _ (xs : List (List ℕ)) (x : List ℕ) (ys : List (List ℕ)) (e : xs �
       let k : length x ≤ n = omega (arith, length-drop n p, z') in
       tag_next t ∙ rw (drop_of_length-le x k, tag_rest) refl
 
+-- an empty string says nothing
+pub tag_empty : (p : List ℕ) (xs : List (List ℕ)) (x : List ℕ) (ys : List (List ℕ)) → xs ≡ x ∷ ys → length x ≡ 0 → begins p (flatten xs) ≡ begins p (flatten ys)
+tag_empty p xs [] ys e h = rw (flatten_next xs [] ys e)
+tag_empty p xs (c ∷ x) ys e h = absurd (omega arith)
+
 pub tag_unended : (p : List ℕ) (xs : List (List ℕ)) → xs ≡ [] → 0 < length p → begins p (flatten xs) ≡ false
 unfolding begins flatten
 tag_unended [] xs e h = absurd (omega arith)
 tag_unended (c ∷ p) xs e h = rw e refl
 
-pub ruleset tag_laws = (tag_start, tag_differs, tag_whole, tag_goes_on, tag_unended)
+pub ruleset tag_laws = (tag_start, tag_differs, tag_whole, tag_goes_on, tag_empty, tag_unended)
 
 pub ruleset length_laws = (flatten_length, flatten_none, joined_short)
 

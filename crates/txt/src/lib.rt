@@ -110,6 +110,9 @@ fn is_candidate_in_parts(s: &[u8]) -> bool
 {
     let mut left: &[u8] = &TAG;
     for string in (CharacterStrings { rest: s }) {
+        if string.is_empty() {
+            continue;
+        }
         let n = string.len().min(left.len());
         if !lists::equal(&string[..n], &left[..n]) {
             return false;

@@ -378,10 +378,18 @@ impl Reader {
         let all = size.checked_mul(times as usize).ok_or(Unreadable)?;
         self.room = self.room.saturating_add(size);
         self.take(all)?;
-        for _ in 0..times {
-            self.bytes.extend_from_slice(&self.item)?;
+        // Some copies in one: twice as many from turn to turn, since an item of a byte or two would take a call for each.
+        let mut copies = mem::replace(&mut self.item, Vec::new(self.alloc));
+        let mut left = times;
+        while left > 0 {
+            if left % 2 == 1 {
+                self.bytes.extend_from_slice(&copies)?;
+            }
+            left /= 2;
+            if left > 0 {
+                copies = copies.repeat(self.alloc, 2)?;
+            }
         }
-        self.item.clear();
         Ok(())
     }
 }

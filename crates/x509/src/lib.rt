@@ -1,12 +1,14 @@
 // RFC 5280's fields of a certificate, and the walk over them.
 #![tactic(auto)]
 
-ghost use Rattle.std.specs.Prelude.{◌≡◌};
+ghost use Rattle.std.specs.Prelude.{◌≡◌, drop};
+ghost use Rattle.der.specs.Header.{header};
 ghost use Rattle.x509.specs.Fields.{anything, tagged, holds, noting, string_name, built_name, expects, may_end, is_of, subject_alt_name, common_name};
 ghost use Rattle.x509.specs.Walk.{noted, walk_run, walk_element};
 ghost use Rattle.x509.specs.Found.{whole_at, contents_at, name_at, alternatives_at, found_at, fields_of};
 
-use der::Fault;
+use der::{Fault, Head};
+use reader::{Reader, Step};
 
 // X.690's universal tags, with the constructed bit.
 pub const BOOLEAN: u8 = 1;
@@ -375,6 +377,18 @@ fn note_at(note: Note, at: usize, before: Noted) -> Noted
     }
 }
 
+// The header of the element at an offset, which a reader there meets.
+#[inline(always)]
+#[tactic(auto, using(reader::proofs::Moves::header_laws))]
+fn head_at(s: &[u8], at: usize) -> Option<Head>
+    ensures { result ≡ header at (drop at s.now) }
+{
+    match Reader::new(s, at).step() {
+        Step::Element(head) => Some(head),
+        Step::End | Step::Broken => None,
+    }
+}
+
 // Walks the element where `from` is, and what stands in it; `levels` levels are left.
 #[cycle(element_run)]
 #[tactic(auto, using(crate::proofs::Walks::element_laws))]
@@ -385,7 +399,7 @@ fn element(s: &[u8], levels: usize, from: Progress) -> Result<Progress, Fault>
     if levels == 0 {
         return Err(fault);
     }
-    let head = der::header_at(s, from.at).ok_or(fault)?;
+    let head = head_at(s, from.at).ok_or(fault)?;
     let contents = &s[head.start..head.end];
     let field = expects(from.place, head.tag, contents).ok_or(fault)?;
     let before = note_at(field.note, from.at, from.noted);

@@ -1,9 +1,10 @@
 -- `cache::store` meets its contract. Assumes nothing.
-use mathlib.Core.Path.{◌∙◌, ap}
+use mathlib.Core.Path.{◌∙◌, ap, sym}
 use native.Mathlib.Omega.{arith}
 use lib.ListN.{set}
 use Rattle.writing.specs.Answer.{refusal}
 use Rattle.cache.proofs.Calls.{at_inside, put_there, store_done, store_table, store_texts, refused_answer, refused_table, refused_texts}
+use Rattle.cache.proofs.Scanned.{plan_answers, plan_table, plan_texts}
 use Rattle.cache.proofs.store.Goals as goal
 
 pub offset_bounds-table-place : goal.offset_bounds-table-place
@@ -32,3 +33,17 @@ returns-in-Err-clause-table_after c = refused_table _ _ _ _ _ _ _ c.in-Err.ensur
 
 pub returns-in-Err-clause-texts_after : goal.returns-in-Err-clause-texts_after
 returns-in-Err-clause-texts_after c = refused_texts _ _ _ _ _ _ _ c.in-Err.ensures
+
+pub returns-in-Ok-clause-by_ranks : goal.returns-in-Ok-clause-by_ranks
+returns-in-Ok-clause-by_ranks c = record {
+  answered = returns-in-Ok-clause-answer c ∙ sym (plan_answers c.args.clock c.args.domain.now c.args.texts.now c.args.table.now c.args.id.now c.args.policy.now);
+  table = returns-in-Ok-clause-table_after c ∙ sym (plan_table c.args.clock c.args.domain.now c.args.texts.now c.args.table.now c.args.id.now c.args.policy.now);
+  texts = returns-in-Ok-clause-texts_after c ∙ sym (plan_texts c.args.clock c.args.domain.now c.args.texts.now c.args.table.now c.args.id.now c.args.policy.now);
+}
+
+pub returns-in-Err-clause-by_ranks : goal.returns-in-Err-clause-by_ranks
+returns-in-Err-clause-by_ranks c = record {
+  answered = returns-in-Err-clause-answer c ∙ sym (plan_answers c.args.clock c.args.domain.now c.args.texts.now c.args.table.now c.args.id.now c.args.policy.now);
+  table = returns-in-Err-clause-table_after c ∙ sym (plan_table c.args.clock c.args.domain.now c.args.texts.now c.args.table.now c.args.id.now c.args.policy.now);
+  texts = returns-in-Err-clause-texts_after c ∙ sym (plan_texts c.args.clock c.args.domain.now c.args.texts.now c.args.table.now c.args.id.now c.args.policy.now);
+}

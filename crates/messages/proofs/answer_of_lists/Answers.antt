@@ -1,6 +1,5 @@
 -- `messages::answer_of_lists` meets its contract. Assumes nothing.
-use Rattle.std.proofs.Common.{arith, sym, ◌∙◌, rules}
-use Rattle.numbers.specs.Numbers.{numbers}
+use Rattle.std.proofs.Common.{arith, sym, ◌∙◌}
 use Rattle.messages.proofs.Returns.{lists_left, lists_left₂, lists_outside, lists_uneven, lists_hosts}
 use Rattle.messages.proofs.answer_of_lists.Goals as goal
 use Rattle.messages.proofs.answer_of_lists.Goals.{then-not-is_whole-via-then-not-is_whole, then-not-is_whole-via-else-not-is_whole+then-not-is_whole-2, then-not-contains-via-then-not-contains, then-not-contains-via-else-not-contains+then-count}
@@ -18,4 +17,4 @@ pub returns : goal.returns
 returns c =
     let ps = sym c.is_whole.ensures ∙ c.if-not-is_whole.false in
     let vs = sym c.is_whole-else-not-is_whole.ensures ∙ c.if-not-is_whole-2.false in
-    lists_hosts _ _ _ ps vs (c.walk_hosts.ensures (numbers c.args.preferences.now) (numbers c.args.verdicts.now) (record { long = sym c.count-count.ensures; each = λ k r h q. search rules }) (record { long = sym c.count.ensures ∙ c.if-count.false; each = λ k r h q. search rules }))
+    lists_hosts _ _ _ ps vs c.read_hosts.ensures

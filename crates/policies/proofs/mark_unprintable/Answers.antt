@@ -1,6 +1,4 @@
 -- `policies::mark_unprintable` meets its contract. Assumes nothing.
-use Rattle.std.proofs.Common.{arith}
-use Rattle.lists.proofs.Lanes.{low_below}
 use Rattle.policies.proofs.PrintableMarks.{unprintable_marked}
 use Rattle.policies.proofs.mark_unprintable.Goals as goal
 
