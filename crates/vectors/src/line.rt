@@ -14,6 +14,9 @@ use std::mem;
 
 const MOST_FIELDS: usize = 96;
 
+// How many bytes of copies are put in their places by one call, or more.
+const BLOCK: usize = 4096;
+
 #[derive(Clone, Copy, PartialEq, Eq)]
 pub enum Kind {
     Word,
@@ -378,17 +381,18 @@ impl Reader {
         let all = size.checked_mul(times as usize).ok_or(Unreadable)?;
         self.room = self.room.saturating_add(size);
         self.take(all)?;
-        // Some copies in one: twice as many from turn to turn, since an item of a byte or two would take a call for each.
+        // Copies of a short item are put there some at a time: twice as many from turn to turn, up to a block.
         let mut copies = mem::replace(&mut self.item, Vec::new(self.alloc));
         let mut left = times;
-        while left > 0 {
+        while left > 1 && copies.len() < BLOCK {
             if left % 2 == 1 {
                 self.bytes.extend_from_slice(&copies)?;
             }
             left /= 2;
-            if left > 0 {
-                copies = copies.repeat(self.alloc, 2)?;
-            }
+            copies = copies.repeat(self.alloc, 2)?;
+        }
+        for _ in 0..left {
+            self.bytes.extend_from_slice(&copies)?;
         }
         Ok(())
     }
